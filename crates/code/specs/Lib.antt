@@ -1,0 +1,4 @@
+pub mod Numbers
+pub mod Coding
+pub mod Sending
+pub mod Mapping

@@ -1,0 +1,2 @@
+// The convolutional code, the order of sending and the mapping to symbols.
+mod parity;

@@ -1,0 +1,5 @@
+pub mod Scheme
+pub mod Questions
+pub mod Parts
+pub mod Faults
+pub mod Plans
