@@ -1,2 +1,4 @@
 // The convolutional code, the order of sending and the mapping to symbols.
-mod parity;
+mod generators;
+
+pub use generators::parity;
