@@ -1,1 +1,4 @@
 pub mod Windows
+pub mod Filled
+pub mod Blocks
+pub mod Pairs

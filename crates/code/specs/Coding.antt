@@ -31,13 +31,13 @@ sum-at w (i ∷ is) = xor (w i) (sum-at w is)
 abbrev pub pair : ℕ → (ℕ → Bool) → Bool × Bool
 pair k w = (sum-at w (first-taps k), sum-at w (second-taps k))
 
--- window t of a block: every index is taken modulo the block length, so the code bites its tail
-abbrev pub window : Scheme → (ℕ → Bool) → ℕ → ℕ → Bool
-window s u t i = u ((t + i) % s .block)
+-- a block's bits round and round: every index is taken modulo the block length, so the code bites its tail
+abbrev pub around : Scheme → (ℕ → Bool) → ℕ → Bool
+around s u i = u (i % s .block)
 
--- the pair of window t
+-- the pair of window t, whose bits are those from t on
 abbrev pub coded : Scheme → (ℕ → Bool) → ℕ → Bool × Bool
-coded s u t = pair (s .constraint) (window s u t)
+coded s u t = pair (s .constraint) (λ i. around s u (t + i))
 
 -- one of a pair: the first for an even place of the code word, the second for an odd one
 abbrev pub one-of : ℕ → Bool × Bool → Bool

@@ -2,3 +2,4 @@ pub mod Numbers
 pub mod Coding
 pub mod Sending
 pub mod Mapping
+pub mod Answers

@@ -13,6 +13,8 @@ use Rattle.plan.specs.Questions.{within, divides, all-below, coprime, bits-fit
 
 pub record Facts (s : Scheme) : Type 0 where
   pub constraint : (s .constraint ≡ 7) ⊎ (s .constraint ≡ 9)
+  pub constraint-low : 7 ≤ s .constraint
+  pub constraint-high : s .constraint ≤ 9
   pub period-low : 1 ≤ s .period
   pub period-high : s .period ≤ 12
   pub entries-low : 1 ≤ length (s .entries)
@@ -40,6 +42,9 @@ yes-then false n rest e = absurd (omega arith)
 within-parts : (low high n : ℕ) → within low high n ≡ true → (low ≤ n) × (n ≤ high)
 within-parts low high n t = let p = and-parts _ _ t in (leb-true low n (p .0), leb-true n high (p .1))
 
+either-range : (k : ℕ) → (k ≡ 7) ⊎ (k ≡ 9) → (7 ≤ k) × (k ≤ 9)
+either-range k h = ⊎-elim (λ e. (omega arith, omega arith)) (λ e. (omega arith, omega arith)) h
+
 bits-range : (q : ℕ) → (within 1 6 q || eqb q 8) ≡ true → (1 ≤ q) × (q ≤ 8)
 bits-range q t =
     ⊎-elim (λ h. let w = within-parts 1 6 q h in (w .0, omega arith)) (λ h. let w = eqb-true q 8 h in (omega arith, omega arith)) (or-cases (within 1 6 q) (eqb q 8) t)
@@ -54,6 +59,7 @@ facts s e0 =
     let q6 = yes-then _ 5 _ (q5 .1) in
     let q7 = yes-then _ 6 _ (q6 .1) in
     let q8 = yes-then _ 7 _ (q7 .1) in
+    let constraint : (s .constraint ≡ 7) ⊎ (s .constraint ≡ 9) = ⊎-elim (λ t. inl (eqb-true _ _ t)) (λ t. inr (eqb-true _ _ t)) (or-cases _ _ (q1 .0)) in
     let two = and-parts _ _ (q2 .0) in
     let period = within-parts _ _ _ (two .0) in
     let entries = within-parts _ _ _ (two .1) in
@@ -65,7 +71,9 @@ facts s e0 =
     let eight = and-parts _ _ (q8 .0) in
     let increment = within-parts _ _ _ (eight .0) in
     record {
-      constraint = ⊎-elim (λ t. inl (eqb-true _ _ t)) (λ t. inr (eqb-true _ _ t)) (or-cases _ _ (q1 .0));
+      constraint = constraint;
+      constraint-low = either-range (s .constraint) constraint .0;
+      constraint-high = either-range (s .constraint) constraint .1;
       period-low = period .0;
       period-high = period .1;
       entries-low = entries .0;

@@ -13,3 +13,4 @@ pub use fault::PlanFault;
 pub use fault::PlanFaultDisplay;
 pub use parts::Parts;
 pub use plan::Plan;
+pub use questions::all_below;

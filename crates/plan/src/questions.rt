@@ -31,12 +31,12 @@ pub(crate) fn period_fits(period: usize, entries: usize) -> bool
     lies_within(1, 12, period) && lies_within(1, 32, entries)
 }
 
-pub(crate) fn entries_fit(entries: &[u8], period: usize) -> bool
-    requires { ⌜ period ≤ 12 ⌝ }
-    ensures { λ r. ⌜ r ≡ all-below (2 * period) (now (entries .entry)) ⌝ }
+// Whether every byte is below the bound.
+pub fn all_below(bytes: &[u8], bound: usize) -> bool
+    ensures { λ r. ⌜ r ≡ all-below bound (now (bytes .entry)) ⌝ }
 {
-    for entry in entries {
-        if usize::from(*entry) >= 2 * period {
+    for byte in bytes {
+        if usize::from(*byte) >= bound {
             return false;
         }
     }

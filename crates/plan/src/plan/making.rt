@@ -25,7 +25,7 @@ impl Plan {
         if !period_fits(parts.period, parts.send_list.len()) {
             return Err(PlanFault::Period);
         }
-        if !entries_fit(parts.send_list.as_slice(), parts.period) {
+        if !all_below(parts.send_list.as_slice(), 2 * parts.period) {
             return Err(PlanFault::Entry);
         }
         if !block_fits(parts.block_length, parts.period) {
