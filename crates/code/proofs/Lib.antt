@@ -2,3 +2,4 @@ pub mod Windows
 pub mod Filled
 pub mod Blocks
 pub mod Pairs
+pub mod Permutation
