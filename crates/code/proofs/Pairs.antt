@@ -5,6 +5,7 @@ use mathlib.Core.Bool.{Bool, true, false, cond}
 use mathlib.Core.List.{List}
 use mathlib.Core.Logic.{_⊎_}
 use Prim.Native.Nat.{ℕ, zero, suc, _+_, _-_, _*_, _/_, _%_, _^_, _<_, _≤_}
+use native.Mathlib.Nat.{mod-add-mod}
 use native.Mathlib.Numerals.{add-one}
 use native.Mathlib.Omega.{arith}
 use lib.Bits.{bitAnd}
@@ -14,6 +15,7 @@ use Rattle.std.proofs.shelf.Bits.{and-mask}
 use Rattle.plan.specs.Scheme.{Scheme}
 use Rattle.plan.proofs.Facts.{Facts}
 use Rattle.code.specs.Coding.{around, coded, is-block, mother, one-of, pair}
+use Rattle.code.specs.Laws.{Tail-biting}
 use Rattle.code.specs.Numbers.{digit, num, bit-of, bits-of}
 use Rattle.code.proofs.Blocks.{num-low, num-more}
 use Rattle.code.proofs.Filled.{Filled, filled-more}
@@ -63,3 +65,10 @@ module _ (s : Scheme) (known : Facts s) (block : List ℕ) (is : is-block s bloc
   pub pair-is : (t x : ℕ) (p : Bool × Bool) → x ≡ num (around s (bits-of block)) (s .constraint) t → p ≡ pair (s .constraint) (bit-of (s .constraint) x) → p ≡ coded s (bits-of block) t
   pair-is t x p e q =
       q ∙ ap (λ n. pair (s .constraint) (bit-of (s .constraint) n)) e ∙ pair-num (s .constraint) (around s (bits-of block)) t (known .constraint)
+
+-- rotating the block rotates the code word
+pub tail-biting : (s : Scheme) → Tail-biting s
+tail-biting s u r t =
+    let same : (i : ℕ) → u (((t + i) % s .block + r) % s .block) ≡ u ((t + r + i) % s .block) =
+    λ i. let order : t + i + r ≡ t + r + i = omega arith in ap u (mod-add-mod (t + i) (s .block) r ∙ ap (λ j. j % s .block) order) in
+    λ x. pair (s .constraint) (λ i. same i x)

@@ -32,7 +32,10 @@ bezout (suc fuel) x (suc y) le c =
     let less : x % suc y ≤ fuel = omega (arith, mod-lt x {m = suc y} (omega arith)) in
     let b = bezout fuel (suc y) (x % suc y) less (λ d h. c d (same d .0 h)) in
     record {
-      u = b .w; w = b .u + x / suc y * b .v; t = b .v; v = b .t + x / suc y * b .w;
+      u = b .w;
+      w = b .u + x / suc y * b .v;
+      t = b .v;
+      v = b .t + x / suc y * b .w;
       holds = step x (suc y) (x / suc y) (x % suc y) (b .u) (b .w) (b .t) (b .v) (sym (div-add-mod x (suc y))) (b .holds);
     }
 
@@ -42,7 +45,7 @@ inverse-of a zero pos b = absurd (omega arith)
 inverse-of a (suc m) pos b =
     let x = b .u + m * b .t in
     let whole : a * x + suc m * b .w ≡ 1 + suc m * (b .v + a * b .t) =
-        omega (arith, b .holds, mul-add a (b .u) (m * b .t), mul-left-comm a m (b .t), mul-add (suc m) (b .v) (a * b .t), suc-mul m (a * b .t)) in
+    omega (arith, b .holds, mul-add a (b .u) (m * b .t), mul-left-comm a m (b .t), mul-add (suc m) (b .v) (a * b .t), suc-mul m (a * b .t)) in
     (x, sym (add-mul-mod-self-left (a * x) (suc m) (b .w)) ∙ ap (λ y. y % suc m) whole ∙ add-mul-mod-self-left 1 (suc m) (b .v + a * b .t))
 
 -- a factor may be reduced first

@@ -34,13 +34,13 @@ bit-num f zero t i h = absurd (omega arith)
 bit-num f (suc n) t i h =
     ⊎-elim
     (λ last. let e : suc n - 1 - i ≡ 0 = omega arith in let p : n ≡ i = omega arith in
-      ap (λ j. eqb ((2 * num f n t + digit (f (t + n))) / 2 ^ j % 2) 1) e
-      ∙ ap (λ y. eqb (y % 2) 1) (div-one _) ∙ digit-low (num f n t) (f (t + n)) ∙ ap (λ j. f (t + j)) p)
+    ap (λ j. eqb ((2 * num f n t + digit (f (t + n))) / 2 ^ j % 2) 1) e
+    ∙ ap (λ y. eqb (y % 2) 1) (div-one _) ∙ digit-low (num f n t) (f (t + n)) ∙ ap (λ j. f (t + j)) p)
     (λ before. let lt : i < n = omega arith in let e : suc n - 1 - i ≡ 1 + (n - 1 - i) = omega arith in
-      ap (λ j. eqb ((2 * num f n t + digit (f (t + n))) / 2 ^ j % 2) 1) e
-      ∙ ap (λ y. eqb (y % 2) 1) (sym (shr-shr (2 * num f n t + digit (f (t + n))) 1 (n - 1 - i)))
-      ∙ ap (λ y. eqb (y / 2 ^ (n - 1 - i) % 2) 1) (digit-high (num f n t) (f (t + n)))
-      ∙ bit-num f n t i lt)
+    ap (λ j. eqb ((2 * num f n t + digit (f (t + n))) / 2 ^ j % 2) 1) e
+    ∙ ap (λ y. eqb (y % 2) 1) (sym (shr-shr (2 * num f n t + digit (f (t + n))) 1 (n - 1 - i)))
+    ∙ ap (λ y. eqb (y / 2 ^ (n - 1 - i) % 2) 1) (digit-high (num f n t) (f (t + n)))
+    ∙ bit-num f n t i lt)
     (cases-eq i n)
 
 -- two windows that agree at the taps have the same sum
@@ -84,8 +84,8 @@ odd-and w m =
     ⊎-elim
     (λ p. odd-no (bitAnd w m) (low ∙ ap (λ x. bitAnd x (m % 2)) p ∙ and-zero-l (m % 2)) ∙ sym (ap (λ b. b && odd m) (odd-no w p)))
     (λ p. ⊎-elim
-      (λ q. odd-no (bitAnd w m) (low ∙ (λ i. bitAnd (p i) (q i))) ∙ sym (λ i. odd-yes w p i && odd-no m q i))
-      (λ q. odd-yes (bitAnd w m) (low ∙ (λ i. bitAnd (p i) (q i))) ∙ sym (λ i. odd-yes w p i && odd-yes m q i)) (two m))
+    (λ q. odd-no (bitAnd w m) (low ∙ (λ i. bitAnd (p i) (q i))) ∙ sym (λ i. odd-yes w p i && odd-no m q i))
+    (λ q. odd-yes (bitAnd w m) (low ∙ (λ i. bitAnd (p i) (q i))) ∙ sym (λ i. odd-yes w p i && odd-yes m q i)) (two m))
     (two w)
 
 ones-masked : (n w m : ℕ) → m < 2 ^ n → odd (ones (bitAnd w m)) ≡ masked n w m
@@ -184,8 +184,10 @@ same-taps f n t (i ∷ is) h = let p = and-parts (ltb i n) (all-below n is) h in
 
 pair-by-taps : (k : ℕ) (f : ℕ → Bool) (t : ℕ) → all-below k (first-taps k) ≡ true → all-below k (second-taps k) ≡ true → pair k (bit-of k (num f k t)) ≡ pair k (λ i. f (t + i))
 pair-by-taps k f t a b =
-    λ i. (sum-same (bit-of k (num f k t)) (λ j. f (t + j)) (first-taps k) (same-taps f k t (first-taps k) a) i,
-      sum-same (bit-of k (num f k t)) (λ j. f (t + j)) (second-taps k) (same-taps f k t (second-taps k) b) i)
+    λ i. (
+      sum-same (bit-of k (num f k t)) (λ j. f (t + j)) (first-taps k) (same-taps f k t (first-taps k) a) i,
+      sum-same (bit-of k (num f k t)) (λ j. f (t + j)) (second-taps k) (same-taps f k t (second-taps k) b) i,
+    )
 
 pub pair-num : (k : ℕ) (f : ℕ → Bool) (t : ℕ) → (k ≡ 7) ⊎ (k ≡ 9) → pair k (bit-of k (num f k t)) ≡ pair k (λ i. f (t + i))
 pair-num k f t h =

@@ -3,3 +3,4 @@ pub mod Coding
 pub mod Sending
 pub mod Mapping
 pub mod Answers
+pub mod Laws

@@ -7,7 +7,6 @@ use lib.Dec.{eqb, leb, ltb}
 use lib.ListN.{getD}
 use Rattle.std.specs.declared.option.Option.{Option}
 use Rattle.std.specs.declared.option.Option.the-variants.{Some, None}
-use Rattle.std.specs.Options.{mapped}
 use Rattle.plan.specs.Scheme.{Scheme}
 use Rattle.code.specs.Numbers.{num, read}
 
@@ -19,14 +18,14 @@ phases q = cond (eqb q 1) (0 ∷ 4 ∷ []) (cond (eqb q 2) (0 ∷ 2 ∷ 6 ∷ 4 
 unfoldable pub symbol-of : ℕ → ℕ → ℕ
 symbol-of q x = cond (leb q 3) (getD (phases q) x 0) x
 
--- the first place at which y stands
-abbrev pub place-of : ℕ → List ℕ → Option ℕ
-place-of y [] = None
-place-of y (x ∷ xs) = cond (eqb x y) (Some 0) (mapped (λ i. i + 1) (place-of y xs))
+-- the first place at which y stands, the list's first place being i
+abbrev pub place-from : ℕ → ℕ → List ℕ → Option ℕ
+place-from y i [] = None
+place-from y i (x ∷ xs) = cond (eqb x y) (Some i) (place-from y (i + 1) xs)
 
 -- the number that a symbol's bits write, or none where no bits give this symbol
 unfoldable pub number-of : ℕ → ℕ → Option ℕ
-number-of q y = cond (leb q 3) (place-of y (phases q)) (cond (ltb y (2 ^ q)) (Some y) None)
+number-of q y = cond (leb q 3) (place-from y 0 (phases q)) (cond (ltb y (2 ^ q)) (Some y) None)
 
 -- symbol i takes q locations of the array, the first fetched on the left
 unfoldable pub symbol-at : Scheme → List Bool → ℕ → ℕ

@@ -14,11 +14,11 @@ source s n = 2 * s .period * (n / length (s .entries)) + getD (s .entries) (n % 
 unfoldable pub location : Scheme → ℕ → ℕ
 location s n = (n * s .increment) % sent-length s
 
--- the interleaver array once the first n sent bits of the code word c are loaded
-abbrev pub loaded : Scheme → (ℕ → Bool) → ℕ → List Bool
-loaded s c zero = replicate (sent-length s) false
-loaded s c (suc n) = set (loaded s c n) (location s n) (c (source s n))
+-- an array once count sent bits of the code word c, from bit n on, are loaded into it
+abbrev pub loads : Scheme → (ℕ → Bool) → List Bool → ℕ → ℕ → List Bool
+loads s c array n zero = array
+loads s c array n (suc count) = set (loads s c array n count) (location s (n + count)) (c (source s (n + count)))
 
 -- the interleaver array with every sent bit loaded
 unfoldable pub interleaved : Scheme → (ℕ → Bool) → List Bool
-interleaved s c = loaded s c (sent-length s)
+interleaved s c = loads s c (replicate (sent-length s) false) 0 (sent-length s)

@@ -6,6 +6,7 @@ ghost use Prim.Native.Nat.{_+_, _-_, _*_, _%_, _^_, _<_, _≤_};
 ghost use lib.ListN.{length, drop};
 ghost use Rattle.code.specs.Answers.{encode-answer};
 ghost use Rattle.code.specs.Coding.{word as code-word, around, is-block};
+ghost use Rattle.code.specs.Laws.{Tail-biting};
 ghost use Rattle.code.specs.Numbers.{bits-of, digit, num};
 ghost use Rattle.plan.specs.Faults.{chain-number, outcome};
 ghost use Rattle.plan.specs.Plans.{plan-scheme};
@@ -47,7 +48,11 @@ fn shift_in(state: u16, bit: u16) -> u16
 fn state_bits(plan: &Plan) -> u16
     ensures { λ r. ⌜ r ≡ 2 ^ (plan-scheme (now (plan .entry)) .constraint - 1) - 1 ⌝ }
 {
-    if plan.parts().constraint == 7 { 63 } else { 255 }
+    if plan.parts().constraint == 7 {
+        63
+    } else {
+        255
+    }
 }
 
 // The bits of the block that come before the newest one of the first window.
@@ -66,6 +71,7 @@ fn first_state(plan: &Plan, block: &[u8]) -> u16
 pub fn encode(plan: &Plan, block: &[u8], word: &mut [bool]) -> Result<(), ChainFault>
     ensures answer { λ r. ⌜ outcome chain-number r ≡ encode-answer (plan-scheme (now (plan .entry))) (now (block .entry)) (length (now (word .entry))) ⌝ }
     ensures after { λ r. ⌜ now (word .exit) ≡ cond (isOk r) (code-word (plan-scheme (now (plan .entry))) (bits-of (now (block .entry))) ++ drop (2 * plan-scheme (now (plan .entry)) .block) (now (word .entry))) (now (word .entry)) ⌝ }
+    ensures rotates { λ _. ⌜ Tail-biting (plan-scheme (now (plan .entry))) ⌝ }
 {
     if !is_block(plan, block) {
         return Err(ChainFault::Block);

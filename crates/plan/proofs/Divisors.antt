@@ -45,9 +45,9 @@ SameDivisors x y a n = (d : ℕ) → (Common d x y → Common d a n) × (Common 
 pub euclid-step : (x y a n : ℕ) → SameDivisors x y a n → SameDivisors y (x % y) a n
 euclid-step x y a n s d = (
   λ c. let dy = dvd-of-mod-eq-zero d (c .0) in
-    s d .0 (mod-eq-zero-of-dvd d (dvd-mod-iff d dy .0 (dvd-of-mod-eq-zero d (c .1))), c .0),
+      s d .0 (mod-eq-zero-of-dvd d (dvd-mod-iff d dy .0 (dvd-of-mod-eq-zero d (c .1))), c .0),
   λ c. let b = s d .1 c in let dy = dvd-of-mod-eq-zero d (b .1) in
-    (b .1, mod-eq-zero-of-dvd d (dvd-mod-iff d dy .1 (dvd-of-mod-eq-zero d (b .0)))),
+      (b .1, mod-eq-zero-of-dvd d (dvd-mod-iff d dy .1 (dvd-of-mod-eq-zero d (b .0)))),
 )
 
 pub euclid-yes : (x a n : ℕ) → SameDivisors x 0 a n → x ≡ 1 → coprime a n ≡ true

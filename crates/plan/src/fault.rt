@@ -61,16 +61,22 @@ pub impl<T: Drop> From<Refused<T>> for ChainFault as ChainFromRefused {
 
 pub impl fmt::Display for PlanFault as PlanFaultDisplay {
     fn fmt<W: fmt::Write>(&self, f: &mut fmt::Formatter<W>) -> fmt::Result {
-        f.write_str(match self {
-            PlanFault::ConstraintLength => "the constraint length is neither 7 nor 9",
-            PlanFault::Period => "the period is not from 1 to 12, or the send list has not 1 to 32 entries",
-            PlanFault::Entry => "an entry of the send list is not below twice the period",
-            PlanFault::BlockLength => "the block length is not from 9 to 1,843,200, or no multiple of the period",
-            PlanFault::SentLength => "more than 2,211,840 bits would be sent",
-            PlanFault::SymbolBits => "the bits of a symbol are none of 1, 2, 3, 4, 5, 6, 8",
-            PlanFault::FrameLength => "the frame length is not from 1 to 4,096, or the frames are not filled exactly",
-            PlanFault::Increment => "the increment is not from 1 to the sent length, or shares a divisor with it",
-        })
+        f.write_str(
+            match self {
+                PlanFault::ConstraintLength => "the constraint length is neither 7 nor 9",
+                PlanFault::Period =>
+                    "the period is not from 1 to 12, or the send list has not 1 to 32 entries",
+                PlanFault::Entry => "an entry of the send list is not below twice the period",
+                PlanFault::BlockLength =>
+                    "the block length is not from 9 to 1,843,200, or no multiple of the period",
+                PlanFault::SentLength => "more than 2,211,840 bits would be sent",
+                PlanFault::SymbolBits => "the bits of a symbol are none of 1, 2, 3, 4, 5, 6, 8",
+                PlanFault::FrameLength =>
+                    "the frame length is not from 1 to 4,096, or the frames are not filled exactly",
+                PlanFault::Increment =>
+                    "the increment is not from 1 to the sent length, or shares a divisor with it",
+            },
+        )
     }
 }
 
@@ -79,14 +85,22 @@ pub impl fmt::Display for ChainFault as ChainFaultDisplay {
         match self {
             ChainFault::Plan(fault) => fault.fmt(f),
             ChainFault::Row => f.write_str("the standard has no such row"),
-            ChainFault::Scrambler => f.write_str("the scrambler's width is none of 3, 4, 5, 6, 8, or its values do not fit"),
-            ChainFault::Fit => f.write_str("the scrambler has not the width that the plan needs, or is shorter than a frame"),
-            ChainFault::Block => f.write_str("the block has not the plan's length, or a byte of it is neither 0 nor 1"),
+            ChainFault::Scrambler => f.write_str(
+                "the scrambler's width is none of 3, 4, 5, 6, 8, or its values do not fit",
+            ),
+            ChainFault::Fit => f.write_str(
+                "the scrambler has not the width that the plan needs, or is shorter than a frame",
+            ),
+            ChainFault::Block => f.write_str(
+                "the block has not the plan's length, or a byte of it is neither 0 nor 1",
+            ),
             ChainFault::TooShort => f.write_str("a given memory is too short"),
             ChainFault::Place => f.write_str("the symbol place is past the last symbol"),
             ChainFault::Index => f.write_str("the on-air index or the weight is too great"),
             ChainFault::Mapping => f.write_str("the unscrambled symbol stands for no bits"),
-            ChainFault::Location => f.write_str("the location is past the last one, or the value is out of range"),
+            ChainFault::Location => f.write_str(
+                "the location is past the last one, or the value is out of range",
+            ),
             ChainFault::OutOfMemory => f.write_str("out of memory"),
         }
     }

@@ -25,7 +25,7 @@ loop-i-again c =
     let block = c .args .block .now in
     c .shift-in-state .ensures
     ∙ num-more s block (c .pre) (c .loop-i .i) 0 (c .loop-i .state) (c .bit-around .result) (c .loop-i .inv)
-      (c .bit-around .ensures ∙ ap (λ i. digit (bits-of block (i % length block))) (sym (zero-add (c .loop-i .i))))
+    (c .bit-around .ensures ∙ ap (λ i. digit (bits-of block (i % length block))) (sym (zero-add (c .loop-i .i))))
 
 pub returns : need.returns
 returns c =

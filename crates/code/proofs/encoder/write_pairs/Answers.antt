@@ -31,10 +31,11 @@ loop-t-again c =
     let t = c .loop-t .t in
     let bit = c .bit-around .ensures ∙ ap (λ p. digit (bits-of block ((t + (p .constraint - 1)) % length block))) (c .parts .ensures) in
     let x = window-is s known block (c .pre .0) t (c .loop-t .state) (c .bit-around .result) (c .shift-in-window .result) (c .loop-t .inv .0) bit (c .shift-in-window .ensures) in
-    let p = pair-is s known block (c .pre .0) t (c .shift-in-window .result) (c .parity-first .result) x (c .parity-first .ensures) in
-    (state-next s known block (c .pre .0) t (c .shift-in-window .result) (c .state-bits-low .result) x (c .state-bits-low .ensures),
+    let p = pair-is s known block (c .pre .0) t (c .shift-in-window .result) (c .parity-first .result) x (c .parity-first .ensures) in (
+      state-next s known block (c .pre .0) t (c .shift-in-window .result) (c .state-bits-low .result) x (c .state-bits-low .ensures),
       filled-pair (mother s (bits-of block)) t (c .args .word .now) (c .loop-t .word) (c .parity-first .result .0) (c .parity-first .result .1) (c .loop-t .inv .1)
-      (ap (λ q. q .0) p ∙ sym (mother-first s (bits-of block) t)) (ap (λ q. q .1) p ∙ sym (mother-second s (bits-of block) t)))
+          (ap (λ q. q .0) p ∙ sym (mother-first s (bits-of block) t)) (ap (λ q. q .1) p ∙ sym (mother-second s (bits-of block) t)),
+    )
 
 pub returns : need.returns
 returns c =
