@@ -9,6 +9,7 @@ pub use encoder::is_block;
 pub use generators::parity;
 pub use interleaver::load;
 pub use interleaver::location;
+pub use mapping::has_bits;
 pub use mapping::number_for;
 pub use mapping::symbol_at;
 pub use mapping::symbol_for;

@@ -60,12 +60,11 @@ pub fn number_for(plan: &Plan, symbol: u8) -> Option<u8>
     }
 }
 
-// Whether so many bits write the symbol's number.
-fn has_bits(symbol: u8, bits: usize) -> bool
-    requires { ⌜ bits ≤ 8 ⌝ }
-    ensures { λ r. ⌜ r ≡ ltb symbol (2 ^ bits) ⌝ }
+// Whether so many bits can write this number.
+pub fn has_bits(number: u8, bits: usize) -> bool
+    ensures { λ r. ⌜ r ≡ ltb number (2 ^ bits) ⌝ }
 {
-    usize::from(symbol) < 1 << bits
+    bits >= 8 || usize::from(number) < 1 << bits
 }
 
 // The first place at which the symbol stands.

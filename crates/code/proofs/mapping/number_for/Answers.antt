@@ -11,11 +11,6 @@ use Rattle.code.specs.Mapping.{phases, place-from}
 use Rattle.code.proofs.Maps.{number-low, number-high, inverts}
 use Rattle.code.proofs.mapping.number_for.Needs as need
 
-pub has-bits-requires : need.has-bits-requires
-has-bits-requires c κs =
-    let s = plan-scheme (c .args .plan .now) in
-    omega (arith, facts s (c .args .plan .now .accepted) .bits-high, ap (λ p. p .«symbol_bits») (c .parts .ensures))
-
 pub returns-then-bits-le3 : need.returns-then-bits-le3
 returns-then-bits-le3 c =
     let s = plan-scheme (c .args .plan .now) in

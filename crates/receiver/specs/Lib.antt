@@ -1,0 +1,4 @@
+pub mod Views
+pub mod Values
+pub mod Calls
+pub mod Receivers

@@ -1,0 +1,6 @@
+// The receiver: values at locations, set by what is heard, noted and blanked.
+mod questions;
+mod receiver;
+mod values;
+
+pub use receiver::Receiver;

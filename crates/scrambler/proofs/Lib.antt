@@ -1,0 +1,4 @@
+pub mod Shifting
+pub mod Bounds
+pub mod Polynomial
+pub mod Periods

@@ -1,0 +1,4 @@
+pub mod Meaning
+pub mod Questions
+pub mod Shifts
+pub mod Meanings

@@ -1,0 +1,6 @@
+pub mod Back
+pub mod Apart
+pub mod Outcomes
+pub mod Frames
+pub mod Sent
+pub mod Answering

@@ -1,0 +1,5 @@
+pub mod Scrambling
+pub mod Transmission
+pub mod Answers
+pub mod Laws
+pub mod Known
