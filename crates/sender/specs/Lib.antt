@@ -3,3 +3,4 @@ pub mod Transmission
 pub mod Answers
 pub mod Laws
 pub mod Known
+pub mod Senders

@@ -7,6 +7,7 @@ use Rattle.sender.specs.Scrambling.{scrambled}
 use Rattle.sender.specs.Transmission.{index-at, transmission}
 use Rattle.sender.proofs.Back.{comes-back}
 use Rattle.sender.proofs.Apart.{keeps-differences, sends-alike}
+use Rattle.sender.proofs.Groups.{tells-bits}
 use Rattle.sender.proofs.laws.sending_holds.Needs as need
 
 known-sending : Known-sending
@@ -14,4 +15,4 @@ unfolding mother interleaved location symbol-at symbol-of scrambled index-at tra
 known-sending = record { symbols-of-three = refl; three = refl; four = refl; two = refl; sum = refl; exclusive = refl }
 
 pub returns : need.returns
-returns c = record { back = comes-back; apart = keeps-differences; alike = sends-alike; known = known-sending }
+returns c = record { back = comes-back; apart = keeps-differences; bits = tells-bits; alike = sends-alike; known = known-sending }

@@ -1,0 +1,5 @@
+pub mod Steps
+pub mod Survivors
+pub mod Choice
+pub mod Best
+pub mod Marks
