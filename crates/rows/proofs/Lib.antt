@@ -1,0 +1,5 @@
+mod Listing
+mod Euclid
+mod Passing
+mod Whole
+mod Refusals

@@ -1,0 +1,6 @@
+pub mod Ratios
+pub mod Patterns
+pub mod Masks
+pub mod Table
+pub mod Rows
+pub mod Schemes
