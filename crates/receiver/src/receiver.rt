@@ -2,6 +2,7 @@
 use plan::Plan;
 
 mod hearing;
+mod looking;
 
 #[derive(Drop)]
 pub struct Receiver<S> {

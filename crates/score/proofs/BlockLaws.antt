@@ -1,7 +1,7 @@
 -- A block that contradicts nothing scores the start, and any other block scores worse.
 -- Assumes nothing.
-use mathlib.Core.Path.{_≡_, refl, sym, ap, subst, _∙_}
-use mathlib.Core.Bool.{Bool, true, false, cond}
+use mathlib.Core.Path.{_≡_, refl, sym, ap, _∙_}
+use mathlib.Core.Bool.{Bool, true, false}
 use mathlib.Core.List.{List, [], _∷_}
 use mathlib.Core.Logic.{_⊎_, inl, inr, ⊎-elim}
 use Prim.Native.Nat.{ℕ, zero, suc, _+_, _-_, _*_, _/_, _%_, _<_, _≤_}
@@ -10,11 +10,11 @@ use native.Mathlib.Omega.{arith}
 use lib.Dec.{eqb}
 use lib.ListN.{length, getD}
 use lib.IntN.{ℤ}
-use Rattle.std.proofs.shelf.Tests.{cases-bool, eqb-true, eqb-false, eq-eqb, cond-both}
-use Rattle.plan.specs.Scheme.{Scheme, sent-length}
+use Rattle.std.proofs.shelf.Tests.{eqb-true, eq-eqb, cond-both}
+use Rattle.plan.specs.Scheme.{Scheme}
 use Rattle.plan.proofs.Facts.{Facts}
 use Rattle.code.specs.Coding.{coded, mother}
-use Rattle.code.specs.Sending.{source, location}
+use Rattle.code.specs.Sending.{location}
 use Rattle.code.proofs.Pairs.{mother-first, mother-second}
 use Rattle.score.specs.Values.{contradicted}
 use Rattle.score.specs.Scale.{Scale, Lawful, better}

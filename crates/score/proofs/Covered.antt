@@ -1,21 +1,21 @@
 -- A block's score takes the value of each sent bit exactly once.
 -- Assumes nothing.
-use mathlib.Core.Path.{_≡_, refl, sym, ap, subst, _∙_}
+use mathlib.Core.Path.{_≡_, refl, sym, ap, _∙_}
 use mathlib.Core.Bool.{Bool, true, false, cond}
 use mathlib.Core.List.{List, [], _∷_, _++_}
-use Prim.Native.Nat.{ℕ, zero, suc, _+_, _*_, _/_, _%_, _<_, _≤_}
+use Prim.Native.Nat.{ℕ, zero, suc, _+_, _*_, _/_, _%_, _<_}
 use native.Mathlib.Nat.{div-add-mod', zero-add, add-zero}
 use native.Mathlib.Omega.{arith}
-use lib.Dec.{eqb, ltb}
+use lib.Dec.{eqb}
 use lib.ListN.{length, getD}
 use lib.IntN.{ℤ}
 use Rattle.std.proofs.shelf.Bits.{div-mul-add, mod-mul-add}
-use Rattle.std.proofs.shelf.Tests.{and-parts, ltb-true, cases-bool, cond-both}
+use Rattle.std.proofs.shelf.Tests.{and-parts, ltb-true}
 use Rattle.plan.specs.Scheme.{Scheme, sent-length}
 use Rattle.plan.specs.Questions.{all-below}
 use Rattle.plan.proofs.Facts.{Facts}
 use Rattle.code.specs.Coding.{coded, mother}
-use Rattle.code.specs.Sending.{source, location}
+use Rattle.code.specs.Sending.{location}
 use Rattle.code.proofs.Pairs.{mother-first, mother-second}
 use Rattle.score.specs.Scale.{Scale}
 use Rattle.score.specs.Blocks.{named-from, named, absorbed, step-values, step-score, score-after, block-score}

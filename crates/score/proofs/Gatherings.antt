@@ -1,10 +1,8 @@
 -- One entry more of the send list.
 -- Assumes nothing.
-use mathlib.Core.Path.{_≡_, refl, sym, ap, subst, _∙_}
-use mathlib.Core.Bool.{Bool, true, false, cond}
+use mathlib.Core.Path.{_≡_, refl, sym, ap, _∙_}
 use mathlib.Core.List.{List, [], _∷_, _++_}
 use Prim.Native.Nat.{ℕ, _+_, _*_, _<_, _≤_}
-use lib.Dec.{eqb}
 use lib.ListN.{length, getD, drop}
 use lib.IntN.{ℤ}
 use Rattle.std.proofs.shelf.Lists.{at-drop-more, at-drop-all, append-assoc, append-nil}

@@ -1,9 +1,9 @@
 -- What the laws of a kind of score say of many values.
 -- Assumes nothing.
-use mathlib.Core.Path.{_≡_, refl, sym, ap, subst, _∙_}
-use mathlib.Core.Bool.{Bool, true, false, not, _&&_, _||_}
+use mathlib.Core.Path.{_≡_, sym, _∙_}
+use mathlib.Core.Bool.{Bool, true, false}
 use mathlib.Core.List.{List, [], _∷_}
-use mathlib.Core.Logic.{_⊎_, inl, inr, ⊎-elim}
+use mathlib.Core.Logic.{_⊎_, ⊎-elim}
 use lib.IntN.{ℤ}
 use Rattle.std.proofs.shelf.Tests.{true≢false, and-parts, and-from, or-cases, cases-bool, not-true, not-from-false}
 use Rattle.score.specs.Values.{contradicted}

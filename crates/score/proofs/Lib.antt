@@ -6,3 +6,4 @@ pub mod Gatherings
 pub mod TrueSums
 pub mod SumsBelow
 pub mod Covered
+pub mod Turns

@@ -1,18 +1,12 @@
 -- Which step of a block takes which sent bit.
 -- Assumes nothing.
-use mathlib.Core.Path.{_≡_, refl, sym, ap, subst, _∙_}
-use mathlib.Core.Bool.{Bool, true, false, cond}
-use mathlib.Core.List.{List, [], _∷_}
-use mathlib.Core.Logic.{_⊎_, inl, inr, ⊎-elim}
-use Prim.Native.Nat.{ℕ, zero, suc, _+_, _-_, _*_, _/_, _%_, _<_, _≤_}
-use native.Mathlib.Nat.{div-add-mod', mod-lt, div-lt-iff-lt-mul, mul-assoc, mul-comm}
+use mathlib.Core.Path.{_≡_}
+use Prim.Native.Nat.{ℕ, _+_, _-_, _*_, _/_, _%_, _<_}
+use native.Mathlib.Nat.{div-add-mod', mod-lt}
 use native.Mathlib.Omega.{arith}
-use lib.Dec.{eqb, ltb}
 use lib.ListN.{length, getD}
-use Rattle.std.proofs.shelf.Bits.{mul-add-lt, div-mul-add, mod-mul-add, div-below, mul-le}
-use Rattle.std.proofs.shelf.Tests.{and-parts, ltb-true}
+use Rattle.std.proofs.shelf.Bits.{mul-add-lt, div-mul-add, mod-mul-add, div-below}
 use Rattle.plan.specs.Scheme.{Scheme, sent-length}
-use Rattle.plan.specs.Questions.{all-below}
 use Rattle.plan.proofs.Facts.{Facts}
 use Rattle.code.specs.Sending.{source}
 use Rattle.code.proofs.Blocks.{below-getD}

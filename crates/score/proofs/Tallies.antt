@@ -1,15 +1,13 @@
 -- Count-first keeps the laws.
 -- Assumes nothing.
-use mathlib.Core.Path.{_≡_, refl, sym, ap, subst, _∙_}
-use mathlib.Core.Bool.{Bool, true, false, not, cond, _&&_, _||_}
-use Prim.Native.Nat.{ℕ, zero, suc, _+_, _-_, _^_, _<_, _≤_, min}
+use mathlib.Core.Path.{_≡_, refl}
+use mathlib.Core.Bool.{true, false, cond, _||_}
+use Prim.Native.Nat.{ℕ, _-_, _≤_}
 use native.Mathlib.Omega.{arith}
-use lib.Dec.{eqb, leb, ltb}
-use lib.IntN.{ℤ, pos, negsuc}
 use Rattle.std.proofs.shelf.Tests.{false≢true, cond-both}
 use Rattle.std.proofs.shelf.Ways.{tells}
 use Rattle.score.specs.Values.{contradicted, weight}
-use Rattle.score.specs.Scale.{Scale, Lawful, better}
+use Rattle.score.specs.Scale.{Lawful}
 use Rattle.score.specs.Kinds.{added, counted, tally-no-worse, count-scale}
 use Rattle.score.specs.declared.tally.Tally.{Tally}
 use Rattle.score.specs.declared.tally.Tally.the-variants.{Counted, Full}

@@ -12,7 +12,7 @@ use Rattle.plan.specs.Scheme.{Scheme, sent-length}
 use Rattle.code.specs.Coding.{coded, is-block, mother}
 use Rattle.code.specs.Sending.{source, location}
 use Rattle.score.specs.Values.{contradicted}
-use Rattle.score.specs.Scale.{Scale, better}
+use Rattle.score.specs.Scale.{Scale}
 
 -- the value that the memory has for a location: -32,768 is read as -32,767, and past the end there is 0
 abbrev pub value-at : List ℤ → ℕ → ℤ

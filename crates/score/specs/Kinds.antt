@@ -4,7 +4,7 @@ use mathlib.Core.Path.{_≡_}
 use mathlib.Core.Bool.{Bool, true, false, cond, _&&_, _||_}
 use Prim.Native.Nat.{ℕ, _+_, _-_, _^_, min, max}
 use lib.Dec.{eqb, leb, ltb}
-use lib.IntN.{ℤ, negsuc}
+use lib.IntN.{negsuc}
 use Rattle.score.specs.Values.{contradicted, weight}
 use Rattle.score.specs.Scale.{Scale}
 use Rattle.score.specs.declared.tally.Tally.{Tally}

@@ -1,6 +1,6 @@
 -- Values: what the receiver heard at a location. A positive one says bit 0, a negative one bit 1, zero nothing.
 -- Assumes nothing.
-use mathlib.Core.Bool.{Bool, true, false, not, cond}
+use mathlib.Core.Bool.{Bool, false, not, cond}
 use Prim.Native.Nat.{ℕ, zero, suc}
 use lib.IntN.{ℤ, pos, negsuc, natAbs}
 

@@ -1,15 +1,13 @@
 // The score of a block against the values that were heard.
-ghost use mathlib.Core.Bool.{true, cond, not};
+ghost use mathlib.Core.Bool.{true};
 ghost use mathlib.Core.Path.{_≡_};
-ghost use Prim.Native.Nat.{_+_, _*_, _%_, _<_, _≤_};
-ghost use lib.Dec.{ltb};
+ghost use Prim.Native.Nat.{_+_, _*_, _%_, _<_};
 ghost use lib.ListN.{length};
 ghost use Rattle.code.specs.Coding.{around, coded, is-block};
 ghost use Rattle.code.specs.Numbers.{bits-of, digit, num};
 ghost use Rattle.plan.specs.Faults.{chain-number, outcome};
 ghost use Rattle.plan.specs.Plans.{plan-scheme};
 ghost use Rattle.plan.specs.Questions.{all-below};
-ghost use Rattle.plan.specs.Scheme.{sent-length};
 ghost use Rattle.score.specs.Blocks.{value-at, step-score, block-score, score-answer, Agrees, Contradicts};
 ghost use Rattle.score.specs.Scale.{better};
 ghost use Rattle.score.specs.Sums.{Takes-each-once};

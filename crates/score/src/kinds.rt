@@ -1,6 +1,6 @@
 // The three kinds of score.
 ghost use mathlib.Core.Path.{_≡_};
-ghost use Rattle.score.specs.Kinds.{total-scale, worst-scale, count-scale, counted, tally-no-worse};
+ghost use Rattle.score.specs.Kinds.{total-scale, worst-scale, count-scale, counted};
 use crate::kind::Kind;
 use crate::tally::Tally;
 use crate::value::*;

@@ -1,6 +1,5 @@
 -- The trellis of a coding scheme, with scores of one kind.
 -- Assumes nothing.
-use mathlib.Core.Bool.{Bool}
 use mathlib.Core.List.{List}
 use Prim.Native.Nat.{ℕ, _-_}
 use lib.IntN.{ℤ}
@@ -10,9 +9,7 @@ use Rattle.code.specs.Coding.{pair}
 use Rattle.code.specs.Numbers.{bit-of}
 use Rattle.score.specs.Scale.{Scale}
 use Rattle.score.specs.Blocks.{absorbed-both, step-score}
-use Rattle.std.specs.declared.option.Option.{Option}
 use Rattle.trellis.specs.Steps.{Steps}
-use Rattle.trellis.specs.Survivors.{way, next-mark, next}
 
 -- the bits of a state: a window's, but for one
 abbrev pub memory : Scheme → ℕ
@@ -37,14 +34,3 @@ steps-with k constraint both = record {
 -- a column of scores by state; past its end the start
 abbrev pub column : {S : Type 0} → Scale S → List S → ℕ → S
 column k scores s = getD scores s (k .start)
-
--- a step whose values are at hand, from a column of scores: the score at a state by one way, the surviving bit and its score
-module _ {S : Type 0} (k : Scale S) (constraint : ℕ) (both : List ℤ × List ℤ) (m : ℕ) where
-  abbrev pub way-with : List S → ℕ → Bool → S
-  way-with scores s b = way (steps-with k constraint both) m 0 (column k scores) s b
-
-  abbrev pub mark-with : Option Bool → List S → ℕ → Bool
-  mark-with forced scores s = next-mark (steps-with k constraint both) m forced 0 (column k scores) s
-
-  abbrev pub next-with : Option Bool → List S → ℕ → S
-  next-with forced scores s = next (steps-with k constraint both) m forced 0 (column k scores) s

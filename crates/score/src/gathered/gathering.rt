@@ -2,7 +2,6 @@
 ghost use mathlib.Core.Path.{_≡_};
 ghost use mathlib.Core.List.{[], _∷_, _++_};
 ghost use Prim.Native.Nat.{_+_, _*_, _/_, _<_};
-ghost use lib.ListN.{length};
 ghost use Rattle.plan.specs.Plans.{plan-scheme};
 ghost use Rattle.plan.specs.Scheme.{sent-length};
 ghost use Rattle.code.specs.Sending.{location as place-of};

@@ -1,26 +1,19 @@
-use mathlib.Core.Path.{_≡_, sym, ap, _∙_}
-use native.Mathlib.Numerals.{add-one}
+use mathlib.Core.Path.{_≡_}
 use native.Mathlib.Omega.{arith}
 use Rattle.plan.specs.Plans.{plan-scheme}
-use Rattle.code.specs.Coding.{coded}
 use Rattle.code.specs.Numbers.{bits-of}
 use Rattle.code.proofs.Blocks.{block-long}
-use Rattle.score.specs.Blocks.{value-at, step-score, score-after, block-score}
+use Rattle.score.specs.Blocks.{value-at}
+use Rattle.score.proofs.Turns.{after-more, after-all}
 use Rattle.score.proofs.block.steps.Needs as need
 
 pub loop-t-again : need.loop-t-again
 loop-t-again g c =
-    let s = plan-scheme (c .args .plan .now) in
-    let k = g .K·Kind .scale (c .args .kind .now) in
-    let values = value-at (c .args .memory .now) in
-    let u = bits-of (c .args .block .now) in
-    let t = c .loop-t .t in
-    c .step-score .ensures ∙ ap (step-score k s values t (coded s u t)) (c .loop-t .inv) ∙ ap (score-after k s values u) (sym (add-one t))
+    after-more (g .K·Kind .scale (c .args .kind .now)) (plan-scheme (c .args .plan .now)) (value-at (c .args .memory .now)) (bits-of (c .args .block .now))
+    (c .loop-t .t) (c .loop-t .score) (c .step-score .result) (c .loop-t .inv) (c .step-score .ensures)
 
 pub returns : need.returns
-unfolding block-score
 returns g c =
     let s = plan-scheme (c .args .plan .now) in
-    let k = g .K·Kind .scale (c .args .kind .now) in
     let all : c .loop-t .t ≡ s .block = omega (arith, block-long s (c .args .block .now) (c .pre)) in
-    c .loop-t .inv ∙ ap (score-after k s (value-at (c .args .memory .now)) (bits-of (c .args .block .now))) all
+    after-all (g .K·Kind .scale (c .args .kind .now)) s (value-at (c .args .memory .now)) (bits-of (c .args .block .now)) (c .loop-t .t) (c .loop-t .score) all (c .loop-t .inv)

@@ -1,9 +1,6 @@
 use borrow.Author.Needs.{needs}
-use mathlib.Core.Path.{_≡_, sym, ap}
-use mathlib.Core.Bool.{false}
-use native.Mathlib.Omega.{arith}
+use mathlib.Core.Path.{sym, ap}
 use Prim.Native.Nat.{_≤_}
-use lib.Dec.{ltb}
 use lib.ListN.{length}
 use lib.IntN.{pos, negsuc}
 use Rattle.std.specs.Numbers.{maxZ}
