@@ -1,10 +1,8 @@
 -- The three kinds of score.
 -- Assumes nothing.
-use mathlib.Core.Path.{_≡_}
 use mathlib.Core.Bool.{Bool, true, false, cond, _&&_, _||_}
 use Prim.Native.Nat.{ℕ, _+_, _-_, _^_, min, max}
 use lib.Dec.{eqb, leb, ltb}
-use lib.IntN.{negsuc}
 use Rattle.score.specs.Values.{contradicted, weight}
 use Rattle.score.specs.Scale.{Scale}
 use Rattle.score.specs.declared.tally.Tally.{Tally}
@@ -49,10 +47,3 @@ count-scale = record {
   extended = λ s value bit. cond (contradicted value bit) (counted s (weight value bit)) s;
   no-worse = tally-no-worse;
 }
-
--- the value -5 against bit 0: Total 7 becomes 12, Worst 7 stays, count 1 and total 7 become 2 and 12
-abbrev pub Known-scores : Type 0
-Known-scores =
-    (total-scale .extended 7 (negsuc 4) false ≡ 12)
-    × (worst-scale .extended 7 (negsuc 4) false ≡ 7)
-    × (count-scale .extended (Counted 1 7) (negsuc 4) false ≡ Counted 2 12)

@@ -20,5 +20,4 @@ pub use kinds::TotalKind;
 pub use kinds::Worst;
 pub use kinds::WorstKind;
 pub use tally::Tally;
-pub use theorems::scores_are_known;
 pub use theorems::total_is_true_sum;

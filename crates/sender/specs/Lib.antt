@@ -2,5 +2,4 @@ pub mod Scrambling
 pub mod Transmission
 pub mod Answers
 pub mod Laws
-pub mod Known
 pub mod Senders
