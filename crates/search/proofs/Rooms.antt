@@ -1,12 +1,12 @@
 -- What the test of the memories says.
 -- Assumes nothing.
-use mathlib.Core.Path.{_≡_, refl, sym, ap, subst, _∙_}
-use mathlib.Core.Bool.{Bool, true, false, cond, _&&_}
+use mathlib.Core.Path.{_≡_, sym, subst}
+use mathlib.Core.Bool.{true}
 use Prim.Native.Nat.{ℕ, _*_, _/_, _^_, _≤_}
-use Rattle.std.proofs.shelf.Tests.{and-parts, leb-true, cond-true, cond-false}
-use Rattle.plan.specs.Scheme.{Scheme, sent-length}
+use Rattle.std.proofs.shelf.Tests.{and-parts, leb-true}
+use Rattle.plan.specs.Scheme.{Scheme}
 use Rattle.search.specs.Searching.{memory}
-use Rattle.search.specs.Looking.{Lengths, long-enough, search-answer}
+use Rattle.search.specs.Looking.{Lengths, long-enough}
 
 pub record Room (s : Scheme) (m size : ℕ) (l : Lengths) : Type 0 where
   pub block : s .block ≤ l .block

@@ -1,7 +1,6 @@
 // The whole search, as it is called.
 ghost use mathlib.Core.Bool.{false, cond};
 ghost use mathlib.Core.Path.{_≡_};
-ghost use lib.ListN.{length};
 ghost use Rattle.code.specs.Numbers.{bits-of};
 ghost use Rattle.plan.specs.Faults.{chain-number, outcome};
 ghost use Rattle.plan.specs.Plans.{plan-scheme};

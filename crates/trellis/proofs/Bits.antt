@@ -1,15 +1,13 @@
 -- The numbers that bits write: windows, states and the state before.
 -- Assumes nothing.
-use mathlib.Core.Path.{_≡_, refl, sym, ap, subst, _∙_}
-use mathlib.Core.Bool.{Bool, true, false, cond}
-use mathlib.Core.Logic.{_⊎_, inl, inr, ⊎-elim}
+use mathlib.Core.Path.{_≡_, refl, sym, ap, _∙_}
+use mathlib.Core.Bool.{Bool, true, false}
 use Prim.Native.Nat.{ℕ, zero, suc, _+_, _-_, _*_, _/_, _%_, _^_, _<_, _≤_}
-use native.Mathlib.Nat.{pow-succ', two-pow-succ, mul-add-div, mul-add-mod-self-left, mod-eq-of-lt, add-mod-left, div-one, div-eq-of-lt}
+use native.Mathlib.Nat.{pow-succ', add-mod-left, div-one, div-eq-of-lt}
 use native.Mathlib.Omega.{arith}
 use mir.Val.{boolByte}
 use lib.Dec.{eqb}
 use Rattle.std.proofs.shelf.Bits.{shr-shr}
-use Rattle.std.proofs.shelf.Tests.{cases-eq}
 use Rattle.code.specs.Numbers.{digit, num, bit-of}
 use Rattle.trellis.specs.Steps.{around}
 use Rattle.trellis.specs.Survivors.{window, before}

@@ -1,23 +1,22 @@
 -- The choice of the start number, and that the block picked is best.
 -- Assumes nothing.
 use mathlib.Core.Path.{_≡_, refl, sym, ap, subst, _∙_}
-use mathlib.Core.Bool.{Bool, true, false, cond, not, _&&_, _||_}
+use mathlib.Core.Bool.{Bool, true, false, cond}
 use mathlib.Core.Logic.{_⊎_, inl, inr, ⊎-elim}
-use Prim.Native.Nat.{ℕ, zero, suc, _+_, _-_, _*_, _/_, _%_, _^_, _<_, _≤_}
+use Prim.Native.Nat.{ℕ, zero, suc, _+_, _-_, _^_, _<_, _≤_}
 use native.Mathlib.Nat.{mod-eq-of-lt}
 use native.Mathlib.Numerals.{add-one}
 use native.Mathlib.Omega.{arith}
-use lib.Dec.{eqb, leb, ltb}
-use Rattle.std.specs.declared.option.Option.{Option}
+use lib.Dec.{ltb}
 use Rattle.std.specs.declared.option.Option.the-variants.{Some, None}
-use Rattle.std.proofs.shelf.Tests.{or-cases, cases-eq, cases-bool, cases-lt, cond-true, cond-false, cond-both, both-ways, lt-ltb, le-ltb}
+use Rattle.std.proofs.shelf.Tests.{cases-eq, cases-bool, cases-lt, cond-true, cond-false, cond-both, both-ways, lt-ltb, le-ltb}
 use Rattle.std.proofs.shelf.Bits.{pow-pos}
-use Rattle.code.specs.Numbers.{digit, num, bit-of}
+use Rattle.code.specs.Numbers.{num, bit-of}
 use Rattle.code.proofs.Windows.{bit-num}
 use Rattle.trellis.specs.Steps.{Steps, Ordered, around, path-score, block-score}
-use Rattle.trellis.specs.Survivors.{before, prefix, survivor, mark}
-use Rattle.trellis.specs.Choice.{back, final, traced, winner, picked}
-use Rattle.trellis.specs.Best.{Best, Picked-is-best}
+use Rattle.trellis.specs.Survivors.{prefix, survivor}
+use Rattle.trellis.specs.Choice.{final, traced, winner}
+use Rattle.trellis.specs.Best.{Picked-is-best}
 use Rattle.trellis.proofs.Bits.{num-same, num-below, num-bits, num-around}
 use Rattle.trellis.proofs.Survival.{Lets, reflexive, other-way, survivor-no-worse, traced-score, traced-forced}
 

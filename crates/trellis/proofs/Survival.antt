@@ -1,18 +1,18 @@
 -- The survivor into a state is no worse than any path that the forced bits let, and its trace has its score.
 -- Assumes nothing.
 use mathlib.Core.Path.{_≡_, refl, sym, ap, subst, _∙_}
-use mathlib.Core.Bool.{Bool, true, false, cond, not, _||_}
-use mathlib.Core.Logic.{_⊎_, inl, inr, ⊎-elim}
-use Prim.Native.Nat.{ℕ, zero, suc, _+_, _-_, _*_, _/_, _%_, _^_, _<_, _≤_}
+use mathlib.Core.Bool.{Bool, true, false, not}
+use mathlib.Core.Logic.{⊎-elim}
+use Prim.Native.Nat.{ℕ, zero, suc, _<_}
 use native.Mathlib.Omega.{arith}
 use lib.Dec.{eqb}
 use Rattle.std.specs.Options.{valueOr}
 use Rattle.std.specs.declared.option.Option.{Option}
 use Rattle.std.specs.declared.option.Option.the-variants.{Some, None}
 use Rattle.std.proofs.shelf.Tests.{or-cases, cases-eq, cases-bool, eq-eqb, ne-eqb, cond-true, cond-false}
-use Rattle.code.specs.Numbers.{digit, num}
+use Rattle.code.specs.Numbers.{num}
 use Rattle.trellis.specs.Steps.{Steps, Ordered, path-score}
-use Rattle.trellis.specs.Survivors.{window, before, way, next-mark, next, survivor, mark}
+use Rattle.trellis.specs.Survivors.{window, before, way, survivor, mark}
 use Rattle.trellis.specs.Choice.{back}
 use Rattle.trellis.proofs.Bits.{num-high, num-before}
 

@@ -2,7 +2,7 @@
 -- Assumes nothing.
 use mathlib.Core.Path.{_≡_}
 use mathlib.Core.Bool.{Bool, true}
-use Prim.Native.Nat.{ℕ, _<_, _≤_, _^_}
+use Prim.Native.Nat.{ℕ, _<_, _^_}
 use Rattle.trellis.specs.Steps.{Steps, Ordered, block-score}
 use Rattle.trellis.specs.Choice.{final, winner, picked}
 

@@ -1,16 +1,14 @@
-use mathlib.Core.Path.{_≡_, sym, _∙_, ap}
-use mathlib.Core.Bool.{true, false}
+use mathlib.Core.Path.{sym, _∙_, ap}
 use Prim.Native.Nat.{_^_}
-use Rattle.std.proofs.shelf.Tests.{cond-true, both-ways, true≢false}
+use Rattle.std.proofs.shelf.Tests.{cond-true, true≢false}
 use Rattle.code.specs.Numbers.{bits-of}
 use Rattle.plan.specs.Plans.{plan-scheme}
 use Rattle.plan.proofs.Facts.{facts}
 use Rattle.score.specs.Blocks.{value-at}
 use Rattle.trellis.specs.Choice.{final, winner}
-use Rattle.search.specs.Looking.{lengths}
 use Rattle.search.specs.Searching.{memory, steps}
 use Rattle.search.proofs.Finding.{found, shown-bits}
-use Rattle.search.proofs.Rooms.{Room, room}
+use Rattle.search.proofs.Rooms.{room}
 use Rattle.search.proofs.looking.search.Needs as need
 
 pub pick-requires : need.pick-requires

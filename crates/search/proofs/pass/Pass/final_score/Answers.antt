@@ -1,4 +1,4 @@
-use mathlib.Core.Path.{_≡_, _∙_, ap}
+use mathlib.Core.Path.{_∙_, ap}
 use lib.ListN.{getD}
 use Rattle.trellis.specs.Survivors.{prefix, survivor}
 use Rattle.search.specs.Stepping.{steps-of}

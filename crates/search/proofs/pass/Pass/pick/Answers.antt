@@ -1,5 +1,5 @@
-use mathlib.Core.Path.{_≡_, _∙_, ap}
-use Prim.Native.Nat.{ℕ, _^_, _<_, _≤_}
+use mathlib.Core.Path.{_∙_, ap}
+use Prim.Native.Nat.{ℕ, _^_, _<_}
 use Rattle.trellis.specs.Choice.{final}
 use Rattle.trellis.specs.Survivors.{prefix, mark}
 use Rattle.search.specs.Stepping.{steps-of}

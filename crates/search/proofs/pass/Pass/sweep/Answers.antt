@@ -1,13 +1,11 @@
-use mathlib.Core.Path.{_≡_, refl, sym, _∙_, ap, subst}
-use mathlib.Core.List.{List, []}
-use Prim.Native.Nat.{ℕ, _^_, _<_, _≤_}
+use mathlib.Core.Path.{_≡_, _∙_, ap, subst}
+use Prim.Native.Nat.{_<_}
 use native.Mathlib.Omega.{arith}
 use lib.ListN.{length, replicate}
 use Rattle.std.proofs.shelf.Lists.{length-replicate}
 use Rattle.std.proofs.shelf.Tests.{cond-true, lt-ltb}
 use Rattle.plan.specs.Plans.{plan-scheme}
-use Rattle.score.specs.Blocks.{value-at, step-values}
-use Rattle.score.specs.Gathered.{held-both}
+use Rattle.score.specs.Blocks.{value-at}
 use Rattle.trellis.specs.Survivors.{prefix}
 use Rattle.search.proofs.Passes.{Passed, passed-none, passed-more}
 use Rattle.search.proofs.pass.Pass.sweep.Needs as need

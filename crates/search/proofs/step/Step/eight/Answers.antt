@@ -1,10 +1,8 @@
-use mathlib.Core.Path.{_≡_, refl, _∙_, ap}
-use mathlib.Core.Bool.{Bool}
-use Prim.Native.Nat.{_<_, _+_, _*_}
+use mathlib.Core.Path.{_≡_, _∙_, ap}
+use Prim.Native.Nat.{_+_, _*_}
 use native.Mathlib.Omega.{arith}
-use Rattle.code.specs.Numbers.{digit}
 use Rattle.trellis.proofs.Bits.{byte-digit, digit-below}
-use Rattle.search.proofs.Eights.{Done, done-none, done-more, done-marks, done-scores, done-fits}
+use Rattle.search.proofs.Eights.{done-none, done-more, done-marks, done-scores, done-fits}
 use Rattle.search.proofs.step.Step.eight.Needs as need
 
 pub loop-i-holds : need.loop-i-holds

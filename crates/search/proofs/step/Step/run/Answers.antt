@@ -1,7 +1,6 @@
-use mathlib.Core.Path.{_≡_, refl, _∙_, ap}
-use Prim.Native.Nat.{_<_, _≤_, _+_, _*_, _/_, _^_}
+use Prim.Native.Nat.{_<_, _/_, _^_}
 use native.Mathlib.Omega.{arith}
-use Rattle.search.proofs.Rows.{Filled, filled-none, filled-more, place-below}
+use Rattle.search.proofs.Rows.{filled-none, filled-more, place-below}
 use Rattle.search.proofs.step.Step.run.Needs as need
 
 pub loop-group-holds : need.loop-group-holds
