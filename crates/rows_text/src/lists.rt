@@ -6,7 +6,7 @@ use rows::Row;
 use std::io;
 
 // A bandwidth and a waveform for each rate.
-pub fn print_all(rt: &LibcRuntime) -> io::Result<()> {
+pub fn print_lists(rt: &LibcRuntime) -> io::Result<()> {
     for (bandwidth, waveform) in [
         (21, 12),
         (3, 11),

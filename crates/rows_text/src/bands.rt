@@ -35,7 +35,7 @@ impl Sums {
 }
 
 // Every bandwidth below 64 kHz that has a row.
-pub fn print_all(rt: &LibcRuntime) -> io::Result<()> {
+pub fn print_bands(rt: &LibcRuntime) -> io::Result<()> {
     for bandwidth in 0..64 {
         if rows_of(bandwidth) > 0 {
             print_band(rt, bandwidth)?;

@@ -1,0 +1,34 @@
+// Which chain is run: a row of the standard, and a code.
+use rows::Row;
+
+#[derive(Clone, Copy)]
+pub struct Choice {
+    pub row: Row,
+    pub constraint: usize,
+}
+
+impl Choice {
+    // The row that is run where none is named: 136 bits in, 1,088 out.
+    pub fn usual() -> Choice {
+        Choice {
+            row: Row {
+                bandwidth: 24,
+                waveform: 1,
+                interleaver: 0,
+            },
+            constraint: 7,
+        }
+    }
+
+    // The row with the most bits in a block.
+    pub fn longest() -> Choice {
+        Choice {
+            row: Row {
+                bandwidth: 48,
+                waveform: 12,
+                interleaver: 3,
+            },
+            constraint: 7,
+        }
+    }
+}
