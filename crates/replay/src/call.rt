@@ -12,8 +12,22 @@ pub struct Lent {
 
 #[derive(Clone, Copy, Debug)]
 pub enum Call {
-    Hear { lent: usize, place: usize, index: u8, weight: u16 },
-    Note { lent: usize, location: usize, value: i16 },
-    Blank { lent: usize, place: usize },
-    Look { lent: Lent },
+    Hear {
+        lent: usize,
+        place: usize,
+        index: u8,
+        weight: u16,
+    },
+    Note {
+        lent: usize,
+        location: usize,
+        value: i16,
+    },
+    Blank {
+        lent: usize,
+        place: usize,
+    },
+    Look {
+        lent: Lent,
+    },
 }

@@ -10,9 +10,18 @@ use Rattle.known.proofs.known_results_hold.Needs as need
 known : Known-results
 unfolding mother interleaved location symbol-at symbol-of scrambled index-at transmission
 known = record {
-  seven = refl; nine = refl; sent = refl; located = refl; located-by-two = refl;
-  symbols = refl; three = refl; four = refl; two = refl;
-  total = refl; worst = refl; counted = refl;
+  seven = refl;
+  nine = refl;
+  sent = refl;
+  located = refl;
+  located-by-two = refl;
+  symbols = refl;
+  three = refl;
+  four = refl;
+  two = refl;
+  total = refl;
+  worst = refl;
+  counted = refl;
 }
 
 pub returns : need.returns

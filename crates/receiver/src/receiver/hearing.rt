@@ -39,7 +39,12 @@ impl<S: Scrambler + Drop> Receiver<S> {
     }
 
     // Sets one location's value.
-    pub fn note(&mut self, memory: &mut [i16], location: usize, value: i16) -> Result<(), ChainFault>
+    pub fn note(
+        &mut self,
+        memory: &mut [i16],
+        location: usize,
+        value: i16,
+    ) -> Result<(), ChainFault>
         ensures answer { λ r. ⌜ outcome chain-number r ≡ note-answer (plan-scheme (now (self .entry) .plan)) (length (now (memory .entry))) location value ⌝ }
         ensures after { λ r. ⌜ now (memory .exit) ≡ cond (isOk r) (after-note location value (now (memory .entry))) (now (memory .entry)) ⌝ }
         ensures kept { λ _. ⌜ view-of meaning (now (self .exit)) ≡ view-of meaning (now (self .entry)) ⌝ }
@@ -66,12 +71,22 @@ impl<S: Scrambler + Drop> Receiver<S> {
         if !is_sent(&self.plan, place) {
             return Err(ChainFault::Place);
         }
-        clear(memory, first_location(&self.plan, place), self.plan.parts().symbol_bits);
+        clear(
+            memory,
+            first_location(&self.plan, place),
+            self.plan.parts().symbol_bits,
+        );
         Ok(())
     }
 
     // Takes the scrambling off an on-air index, and sets the values of the symbol's locations by its bits.
-    pub fn hear(&mut self, memory: &mut [i16], place: usize, index: u8, weight: u16) -> Result<(), ChainFault>
+    pub fn hear(
+        &mut self,
+        memory: &mut [i16],
+        place: usize,
+        index: u8,
+        weight: u16,
+    ) -> Result<(), ChainFault>
         ensures answer { λ r. ⌜ outcome chain-number r ≡ hear-answer (view-of meaning (now (self .entry))) (length (now (memory .entry))) place index weight ⌝ }
         ensures after { λ r. ⌜ now (memory .exit) ≡ cond (isOk r) (after-hear (view-of meaning (now (self .entry))) place index weight (now (memory .entry))) (now (memory .entry)) ⌝ }
         ensures kept { λ _. ⌜ view-of meaning (now (self .exit)) ≡ view-of meaning (now (self .entry)) ⌝ }
@@ -91,7 +106,13 @@ impl<S: Scrambler + Drop> Receiver<S> {
         let Some(number) = number_heard(&self.plan, &mut self.scrambler, place, index) else {
             return Err(ChainFault::Mapping);
         };
-        set_bits(memory, first_location(&self.plan, place), self.plan.parts().symbol_bits, number, weight);
+        set_bits(
+            memory,
+            first_location(&self.plan, place),
+            self.plan.parts().symbol_bits,
+            number,
+            weight,
+        );
         Ok(())
     }
 }

@@ -30,12 +30,12 @@ returns g c =
     let m = g .S·Scrambler .meaning (c .args .self .now .scrambler) in
     let place = c .args .place in
     let found : Some (c .in-Some .number) ≡ heard (view plan m) place (c .args .index) =
-        sym (c .in-Some .is) ∙ c .number-heard .ensures .value ∙ ap (λ n. heard (view plan n) place (c .args .index)) (c .fits-2 .ensures .kept) in
+    sym (c .in-Some .is) ∙ c .number-heard .ensures .value ∙ ap (λ n. heard (view plan n) place (c .args .index)) (c .fits-2 .ensures .kept) in
     let q = ap (λ p. p .«symbol_bits») (c .parts .ensures) in
     record {
       answer = sym (hear-accepted (view plan m) (length (c .args .memory .now)) place (c .args .index) (c .args .weight)
-        (sym (c .if-not-fits .ensures tt .answer)) (sym (c .if-not-is-lent .ensures tt)) (sym (c .if-not-is-sent .ensures tt)) (sym (c .if-not-fits-index .ensures tt)) (sym (ap isSome found)));
+          (sym (c .if-not-fits .ensures tt .answer)) (sym (c .if-not-is-lent .ensures tt)) (sym (c .if-not-is-sent .ensures tt)) (sym (c .if-not-fits-index .ensures tt)) (sym (ap isSome found)));
       after = c .set-bits .ensures
-        ∙ (λ x. with-values (c .args .memory .now) (c .first-location .ensures .value x) (λ i. signed (c .args .weight) (bit-of (q x) (valueOr (found x) 0) i)) (q x));
+          ∙ (λ x. with-values (c .args .memory .now) (c .first-location .ensures .value x) (λ i. signed (c .args .weight) (bit-of (q x) (valueOr (found x) 0) i)) (q x));
       kept = ap (view plan) (c .number-heard .ensures .kept ∙ c .fits-2 .ensures .kept);
     }

@@ -26,10 +26,10 @@ returns g c =
     let new = c .args .new .now .scores .now in
     let marks = c .args .marks .now in
     let part : take (c .min .result - 0) values ≡ take n values =
-        ap (λ m. take m values) (sub-zero (c .min .result) ∙ c .min .ensures ∙ ap (λ x. min x (length values)) (c .sent-length .ensures)) ∙ part-is n values in
+    ap (λ m. take m values) (sub-zero (c .min .result) ∙ c .min .ensures ∙ ap (λ x. min x (length values)) (c .sent-length .ensures)) ∙ part-is n values in
     record {
       answer = c .search .ensures .answer ∙ ap (λ l. search-answer s (lengths l block old new marks)) part
-        ∙ ap (λ b. cond (b && leb (s .block) (length block) && leb (2 ^ memory s) (length old) && leb (2 ^ memory s) (length new) && leb (s .block * 2 ^ memory s / 8) (length marks)) 0 13) (part-long n values);
+          ∙ ap (λ b. cond (b && leb (s .block) (length block) && leb (2 ^ memory s) (length old) && leb (2 ^ memory s) (length new) && leb (s .block * 2 ^ memory s / 8) (length marks)) 0 13) (part-long n values);
       found = subst (λ l. made (c .search .result) (λ score. Found k s (value-at l) (bits-of (c .search .last .block)) score)) part (c .search .ensures .found);
       block = c .search .ensures .block ∙ ap (λ l. cond (isOk (c .search .result)) (shown k s (value-at l) block) block) part;
       old = c .search .ensures .old;
