@@ -1,8 +1,12 @@
 // A seeded generator of 64-bit numbers.
 ghost use mathlib.Core.Path.{_≡_};
-ghost use Prim.Native.Nat.{_/_, _^_};
+ghost use mathlib.Core.Bool.{cond};
+ghost use Prim.Native.Nat.{_/_, _%_, _^_};
+ghost use lib.Dec.{eqb};
 ghost use lib.ListN.{length};
 ghost use Rattle.channel.specs.Drawing.{stepped, state-after, mixed, drawn, drawn-bits};
+ghost use Rattle.std.specs.Slices.{Shuffled};
+use std::num::nearest_u64_to_f64;
 
 #[derive(Clone, Copy)]
 pub struct Generator {
@@ -51,5 +55,42 @@ impl Generator {
         for i in 0..out.len() {
             out[i] = self.draw_bit();
         }
+    }
+
+    // A place below the bound, and 0 where nothing is below it.
+    pub fn draw_below(&mut self, bound: usize) -> usize
+        ensures value { λ r. ⌜ r ≡ cond (eqb bound 0) 0 (drawn (now (self .entry) .state) % bound) ⌝ }
+        ensures after { λ _. ⌜ now (self .exit) .state ≡ stepped (now (self .entry) .state) ⌝ }
+    {
+        let number = self.draw() as usize;
+        if bound == 0 { 0 } else { number % bound }
+    }
+
+    // The same places in another order.
+    pub fn shuffle(&mut self, places: &mut [usize])
+        ensures { λ _. ⌜ Shuffled (now (places .entry)) (now (places .exit)) ⌝ }
+    {
+        for i in 0..places.len() {
+            let other = i + self.draw_below(places.len() - i);
+            places.swap(i, other);
+        }
+    }
+
+    // A fraction from 0 to 1, all alike.
+    pub fn draw_fraction(&mut self) -> f64
+        ensures after { λ _. ⌜ now (self .exit) .state ≡ stepped (now (self .entry) .state) ⌝ }
+    {
+        nearest_u64_to_f64(self.draw()) * 5.421010862427522e-20
+    }
+
+    // A nearly normal number, of mean 0 and deviation 1: twelve fractions less six.
+    pub fn draw_normal(&mut self) -> f64
+        ensures after { λ _. ⌜ now (self .exit) .state ≡ state-after 12 (now (self .entry) .state) ⌝ }
+    {
+        let mut sum = -6.0;
+        for _i in 0..12usize {
+            sum = sum + self.draw_fraction();
+        }
+        sum
     }
 }

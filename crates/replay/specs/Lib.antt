@@ -1,3 +1,4 @@
 pub mod Ledger
 pub mod Heard
 pub mod Promise
+pub mod Given

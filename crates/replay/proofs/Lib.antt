@@ -1,0 +1,9 @@
+pub mod Signs
+pub mod Stretches
+pub mod Loaded
+pub mod Touching
+pub mod Returned
+pub mod Kept
+pub mod Looked
+pub mod Carried
+pub mod Whole
