@@ -5,6 +5,11 @@ ghost use Rattle.lines.specs.Plans.{plan-line-answer};
 ghost use Rattle.plan.specs.Faults.{outcome};
 ghost use Rattle.plan.specs.Parts.{scheme};
 ghost use Rattle.plan.specs.Plans.{plan-scheme};
+ghost use Rattle.bench.specs.Order.{asked};
+ghost use Rattle.receiver.specs.Calls.{hear-answer, note-answer, blank-answer};
+ghost use Rattle.receiver.specs.Receivers.{view-of};
+ghost use Rattle.scrambler.specs.Meanings.{table-meaning};
+ghost use Rattle.std.specs.Of.Vec.{vec-len};
 ghost use Rattle.std.specs.Vec.{made};
 use lines::Answer;
 use lines::Command;
@@ -142,7 +147,9 @@ impl Session {
         Ok(Answer::Accepted)
     }
 
-    fn hear(&mut self, place: usize, index: u8, weight: u16) -> Result<Answer, LineFault> {
+    fn hear(&mut self, place: usize, index: u8, weight: u16) -> Result<Answer, LineFault>
+        ensures { λ r. ⌜ outcome line-number r ≡ asked (now (self .entry) .receiver) (λ x. hear-answer (view-of table-meaning x) (vec-len (now (self .entry) .memory)) place index weight) ⌝ }
+    {
         let Some(receiver) = &mut self.receiver else {
             return Err(LineFault::Order);
         };
@@ -150,7 +157,9 @@ impl Session {
         Ok(Answer::Accepted)
     }
 
-    fn note(&mut self, location: usize, value: i16) -> Result<Answer, LineFault> {
+    fn note(&mut self, location: usize, value: i16) -> Result<Answer, LineFault>
+        ensures { λ r. ⌜ outcome line-number r ≡ asked (now (self .entry) .receiver) (λ x. note-answer (plan-scheme (x .plan)) (vec-len (now (self .entry) .memory)) location value) ⌝ }
+    {
         let Some(receiver) = &mut self.receiver else {
             return Err(LineFault::Order);
         };
@@ -158,7 +167,9 @@ impl Session {
         Ok(Answer::Accepted)
     }
 
-    fn blank(&mut self, place: usize) -> Result<Answer, LineFault> {
+    fn blank(&mut self, place: usize) -> Result<Answer, LineFault>
+        ensures { λ r. ⌜ outcome line-number r ≡ asked (now (self .entry) .receiver) (λ x. blank-answer (plan-scheme (x .plan)) (vec-len (now (self .entry) .memory)) place) ⌝ }
+    {
         let Some(receiver) = &mut self.receiver else {
             return Err(LineFault::Order);
         };

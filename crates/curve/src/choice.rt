@@ -32,3 +32,29 @@ impl Choice {
         }
     }
 }
+
+// A whole curve: which chain, which ratios, how many blocks at each, and the seed of the first.
+#[derive(Clone, Copy)]
+pub struct Run {
+    pub choice: Choice,
+    // in decibels
+    pub from: i8,
+    pub to: i8,
+    pub blocks: usize,
+    pub seed: u64,
+    pub svg: bool,
+}
+
+impl Run {
+    // A run of a few seconds.
+    pub fn usual() -> Run {
+        Run {
+            choice: Choice::usual(),
+            from: -10,
+            to: -4,
+            blocks: 6,
+            seed: 5069,
+            svg: false,
+        }
+    }
+}

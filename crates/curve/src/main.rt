@@ -1,13 +1,19 @@
-// Takes blocks of one of the standard's waveforms from random bits to what goes on the air.
+// Takes blocks of one of the standard's waveforms from random bits to counted dots on an error curve.
+mod calls;
 mod checksum;
 mod choice;
+mod counting;
+mod plot;
 mod request;
 mod sent;
 mod show;
+mod svg;
+mod trial;
 mod trouble;
 
 use crate::request::Request;
 use crate::request::request_of;
+use crate::show::show_curve;
 use crate::show::show_rows;
 use crate::show::show_sent;
 use crate::show::show_time;
@@ -34,5 +40,6 @@ fn run(rt: &LibcRuntime) -> Result<(), Trouble> {
         Request::Rows => Ok(show_rows(rt)?),
         Request::Time => show_time(rt),
         Request::Send(choice) => show_sent(rt, choice),
+        Request::Curve(run) => show_curve(rt, run),
     }
 }

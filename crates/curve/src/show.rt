@@ -1,8 +1,13 @@
 // What a person reads.
 use crate::checksum::crc32;
 use crate::choice::Choice;
+use crate::choice::Run;
+use crate::counting::dots_of;
+use crate::plot::show_dots;
+use crate::plot::show_plot;
 use crate::sent::Sent;
 use crate::sent::drawn_and_sent;
+use crate::svg::show_svg;
 use crate::trouble::Trouble;
 use crate::trouble::TroubleFromChain;
 use crate::trouble::TroubleFromIo;
@@ -31,6 +36,19 @@ pub fn show_rows(rt: &LibcRuntime) -> io::Result<()> {
     print_bands(rt)
 }
 
+// Counts the dots of a run, and shows them as lines and as a plot, or as SVG alone.
+pub fn show_curve(rt: &LibcRuntime, run: Run) -> Result<(), Trouble> {
+    let dots = dots_of(rt, run)?;
+    if run.svg {
+        return Ok(show_svg(rt, run.choice, dots.as_slice())?);
+    }
+    let plan = run.choice.row.plan(rt.alloc(), run.choice.constraint)?;
+    show_choice(rt, run.choice)?;
+    show_plan(rt, &plan)?;
+    show_dots(rt, dots.as_slice())?;
+    Ok(show_plot(rt, run.choice, dots.as_slice())?)
+}
+
 // Draws a block, sends it, and shows the row, the block and the first frame.
 pub fn show_sent(rt: &LibcRuntime, choice: Choice) -> Result<(), Trouble> {
     let plan = choice.row.plan(rt.alloc(), choice.constraint)?;
@@ -55,7 +73,7 @@ pub fn show_time(rt: &LibcRuntime) -> Result<(), Trouble> {
     Ok(show_checksum(rt, sent.indices.as_slice())?)
 }
 
-fn interleaver_name(interleaver: usize) -> &'static str {
+pub fn interleaver_name(interleaver: usize) -> &'static str {
     match interleaver {
         0 => "ultra short",
         1 => "short",

@@ -1,7 +1,10 @@
 // What can go wrong, and how it is said.
+use channel::PhasesOnly;
+use channel::PhasesOnlyDisplay;
 use plan::ChainFault;
 use plan::ChainFaultDisplay;
 use std::alloc::AllocError;
+use std::alloc::Refused;
 use std::fmt;
 use std::io;
 
@@ -11,12 +14,14 @@ pub enum Slip {
     Word,
     Count,
     Number(&'static str),
+    Nothing,
 }
 
 #[derive(Drop)]
 pub enum Trouble {
     Arguments(Slip),
     Chain(ChainFault),
+    Phases(PhasesOnly),
     Outside(io::Error),
 }
 
@@ -32,6 +37,12 @@ pub impl From<ChainFault> for Trouble as TroubleFromChain {
     }
 }
 
+pub impl From<PhasesOnly> for Trouble as TroubleFromPhases {
+    fn from(fault: PhasesOnly) -> Trouble {
+        Trouble::Phases(fault)
+    }
+}
+
 pub impl From<io::Error> for Trouble as TroubleFromIo {
     fn from(error: io::Error) -> Trouble {
         Trouble::Outside(error)
@@ -44,15 +55,26 @@ pub impl From<AllocError> for Trouble as TroubleFromAlloc {
     }
 }
 
+pub impl<T: Drop> From<Refused<T>> for Trouble as TroubleFromRefused {
+    fn from(_error: Refused<T>) -> Trouble {
+        Trouble::Chain(ChainFault::OutOfMemory)
+    }
+}
+
 const USAGE: &'static str =
-    "usage: curve [BANDWIDTH WAVEFORM INTERLEAVER CONSTRAINT-LENGTH] | curve rows | curve time";
+    "usage: curve [ROW] [--from=DECIBELS] [--to=DECIBELS] [--blocks=COUNT] [--seed=NUMBER] [--svg]
+       curve send [ROW]
+       curve rows
+       curve time
+ROW is four numbers: bandwidth in kHz, waveform, interleaver, constraint length";
 
 pub impl fmt::Display for Slip as SlipDisplay {
     fn fmt<W: fmt::Write>(&self, f: &mut fmt::Formatter<W>) -> fmt::Result {
         match self {
-            Slip::Word => f.write_str("the only words are rows and time\n")?,
+            Slip::Word => f.write_str("there is no such word or option\n")?,
             Slip::Count => f.write_str("a row takes four numbers\n")?,
-            Slip::Number(name) => write!(f, "the {name} is not a whole number\n")?,
+            Slip::Number(name) => write!(f, "the {name} is not a whole number, or too great\n")?,
+            Slip::Nothing => f.write_str("there is no ratio or no block to run\n")?,
         }
         f.write_str(USAGE)
     }
@@ -63,6 +85,7 @@ pub impl fmt::Display for Trouble as TroubleDisplay {
         match self {
             Trouble::Arguments(slip) => slip.fmt(f),
             Trouble::Chain(fault) => fault.fmt(f),
+            Trouble::Phases(fault) => fault.fmt(f),
             Trouble::Outside(error) => error.fmt(f),
         }
     }

@@ -1,26 +1,22 @@
 -- The memory that is lent holds the ledger in front, and past it what it held.
 -- Assumes nothing.
-use mathlib.Core.Path.{_≡_, refl, sym, ap, subst, _∙_}
-use mathlib.Core.Bool.{Bool, true, false, cond, not, _&&_}
+use mathlib.Core.Path.{_≡_, refl, sym, ap, _∙_}
+use mathlib.Core.Bool.{Bool, true, false, cond, not}
 use mathlib.Core.List.{List, [], _∷_, _++_}
-use Prim.Native.Nat.{ℕ, zero, suc, min, _+_, _*_, _-_, _<_, _≤_}
+use Prim.Native.Nat.{ℕ, suc, min, _+_, _<_, _≤_}
 use native.Mathlib.Omega.{arith}
-use borrow.Rule.Slice.PartMut.{putMid}
-use lib.Dec.{eqb, leb, ltb}
+use lib.Dec.{ltb}
 use lib.IntN.{ℤ, pos}
-use lib.ListN.{length, getD, set, take, drop, replicate}
+use lib.ListN.{length, getD, take, drop, replicate}
 use Rattle.std.proofs.shelf.Lists.{length-take-le, length-replicate, getD-replicate, drop-set-lt, same-lists, take-append-drop}
 use Rattle.std.proofs.shelf.Tests.{and-parts, cond-both, eqb-true, leb-true, ltb-true}
 use Rattle.std.specs.Results.{isOk}
 use Rattle.std.specs.declared.result.Result.{Result}
 use Rattle.std.specs.declared.result.Result.the-variants.{Ok, Err}
-use Rattle.plan.specs.Faults.{plan-number, chain-number, outcome}
+use Rattle.plan.specs.Faults.{chain-number, outcome}
 use Rattle.plan.specs.declared.fault.ChainFault.{ChainFault}
-use Rattle.plan.specs.declared.fault.ChainFault.the-variants.{Plan, Row, Scrambler, Fit, Block, TooShort, Place, Index, Mapping, Location, OutOfMemory}
-use Rattle.plan.specs.declared.fault.PlanFault.{PlanFault}
-use Rattle.plan.specs.declared.fault.PlanFault.the-variants.{ConstraintLength, Period, Entry, BlockLength, SentLength, SymbolBits, FrameLength, Increment}
 use Rattle.plan.specs.Scheme.{Scheme, sent-length}
-use Rattle.plan.proofs.Facts.{Facts, facts}
+use Rattle.plan.proofs.Facts.{Facts}
 use Rattle.sender.specs.Transmission.{symbols}
 use Rattle.search.specs.Looking.{Lengths, long-enough, search-answer}
 use Rattle.receiver.specs.Calls.{view-fits, lent-enough, note-fits, hear-answer, note-answer, blank-answer}
@@ -71,34 +67,6 @@ memory-lent (Note lent location value) = lent
 memory-lent (Blank lent place) = lent
 memory-lent (Look lent) = lent .memory
 
--- a fault's number is never 0
-plan-never : (f : PlanFault) → eqb (plan-number f) 0 ≡ false
-plan-never ConstraintLength = refl
-plan-never Period = refl
-plan-never Entry = refl
-plan-never BlockLength = refl
-plan-never SentLength = refl
-plan-never SymbolBits = refl
-plan-never FrameLength = refl
-plan-never Increment = refl
-
-chain-never : (f : ChainFault) → eqb (chain-number f) 0 ≡ false
-chain-never (Plan f) = plan-never f
-chain-never Row = refl
-chain-never Scrambler = refl
-chain-never Fit = refl
-chain-never Block = refl
-chain-never TooShort = refl
-chain-never Place = refl
-chain-never Index = refl
-chain-never Mapping = refl
-chain-never Location = refl
-chain-never OutOfMemory = refl
-
-pub answered-ok : {X : Type 0} (r : Result X ChainFault) → isOk r ≡ eqb (outcome chain-number r) 0
-answered-ok (Ok x) = refl
-answered-ok (Err f) = sym (chain-never f)
-
 -- the part that a call is lent is as long as it is lent
 pub part-long : {X : Type 0} (n lent : ℕ) (memory : List X) → n ≡ min lent (length memory) → length (take n memory) ≡ min lent (length memory)
 part-long n lent memory e = length-take-le n memory (omega arith) ∙ e
@@ -146,10 +114,6 @@ module _ (v : View) (f : Facts (v .scheme)) (whole : Lengths) where
   pub lent-back : {X : Type 0} (c : Call) (r : Result X ChainFault) (n : ℕ) (memory front : List ℤ) → n ≡ min (memory-lent c) (whole .values) → outcome chain-number r ≡ answer v whole c → front ≡ cond (isOk r) (changed v whole c (take n memory)) (take n memory) → front ++ drop n memory ≡ cond (isOk r) (changed v whole c memory) memory
   lent-back c (Ok x) n memory front long e is = lent-front c n memory front (sym e) (omega (arith, lent-yes c (sym e))) is
   lent-back c (Err fault) n memory front long e is = ap (λ l. l ++ drop n memory) is ∙ take-append-drop n memory
-
-  -- accepted is what the answer 0 says
-  pub accepted-is : {X : Type 0} (c : Call) (r : Result X ChainFault) → outcome chain-number r ≡ answer v whole c → isOk r ≡ accepted v whole c
-  accepted-is c r e = answered-ok r ∙ ap (λ n. eqb n 0) e
 
   all-front : (calls : List Call) (n : ℕ) (memory : List ℤ) → take n (after-all v whole calls memory) ≡ after-all v whole calls (take n memory)
   all-front [] n memory = refl

@@ -1,13 +1,13 @@
 -- What is loaded is read again: the interleaver array of a block has each sent bit at its location.
 -- Assumes nothing.
-use mathlib.Core.Path.{_≡_, refl, sym, ap, _∙_}
+use mathlib.Core.Path.{_≡_, sym, ap, _∙_}
 use mathlib.Core.Bool.{Bool, false}
 use mathlib.Core.List.{List}
 use mathlib.Core.Logic.{_≢_, ⊎-elim}
 use Prim.Native.Nat.{ℕ, zero, suc, _+_, _*_, _/_, _%_, _<_, _≤_}
 use native.Mathlib.Nat.{zero-add, div-add-mod', mul-assoc, mul-div-le, mul-le-mul-right}
 use native.Mathlib.Omega.{arith}
-use lib.ListN.{length, getD, set, replicate}
+use lib.ListN.{length, set, replicate}
 use Rattle.std.proofs.shelf.Bits.{div-mul-add}
 use Rattle.std.proofs.shelf.Lists.{getD-set-same, getD-set-other, length-replicate}
 use Rattle.std.proofs.shelf.Tests.{cases-eq, cases-lt}

@@ -1,14 +1,14 @@
 -- A look that is lent the first part of a block's memory, and of the values.
 -- Assumes nothing.
 use mathlib.Core.Path.{_≡_, refl, sym, ap, subst, _∙_}
-use mathlib.Core.Bool.{Bool, true, false, cond, _&&_}
-use mathlib.Core.List.{List, [], _∷_, _++_}
+use mathlib.Core.Bool.{Bool, cond}
+use mathlib.Core.List.{List, _++_}
 use Prim.Native.Nat.{ℕ, zero, suc, _+_, _%_, _<_, _≤_}
 use native.Mathlib.Nat.{mod-lt}
 use native.Mathlib.Omega.{arith}
 use lib.Dec.{eqb}
 use lib.IntN.{ℤ}
-use lib.ListN.{length, getD, set, take, drop}
+use lib.ListN.{length, set, take, drop}
 use Rattle.std.specs.Results.{isOk}
 use Rattle.std.specs.Vec.{made}
 use Rattle.std.specs.declared.result.Result.{Result}
@@ -18,7 +18,7 @@ use Rattle.std.proofs.shelf.Tests.{and-parts, leb-true}
 use Rattle.plan.specs.Faults.{chain-number, outcome}
 use Rattle.plan.specs.Scheme.{Scheme, sent-length}
 use Rattle.plan.specs.declared.fault.ChainFault.{ChainFault}
-use Rattle.code.specs.Coding.{around, coded, pair}
+use Rattle.code.specs.Coding.{around, pair}
 use Rattle.code.specs.Numbers.{digit, bits-of}
 use Rattle.score.specs.Blocks.{value-at, step-score, score-after, block-score}
 use Rattle.score.specs.Scale.{Scale}

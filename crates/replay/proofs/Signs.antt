@@ -1,11 +1,11 @@
 -- A weighted bit says that bit, and contradicts the other.
 -- Assumes nothing.
 use mathlib.Core.Path.{_≡_, refl}
-use mathlib.Core.Bool.{Bool, true, false, not, cond}
+use mathlib.Core.Bool.{Bool, true, false, not}
 use Prim.Native.Nat.{ℕ, zero, suc, _≤_}
 use native.Mathlib.Omega.{arith}
 use lib.Dec.{ltb}
-use lib.IntN.{ℤ, pos, negsuc}
+use lib.IntN.{ℤ, negsuc}
 use Rattle.std.specs.Numbers.{maxZ}
 use Rattle.std.proofs.shelf.Tests.{cond-both}
 use Rattle.score.specs.Values.{contradicted}

@@ -3,22 +3,21 @@
 use mathlib.Core.Path.{_≡_, refl, sym, ap, subst, _∙_}
 use mathlib.Core.Bool.{Bool, true, false, cond, _&&_}
 use mathlib.Core.List.{List, [], _∷_}
-use mathlib.Core.Logic.{_≢_, ⊎-elim}
-use Prim.Native.Nat.{ℕ, zero, suc, _+_, _*_, _/_, _<_, _≤_}
-use native.Mathlib.Nat.{mul-le-mul-right}
+use mathlib.Core.Logic.{_≢_}
+use Prim.Native.Nat.{ℕ, _+_, _*_, _/_, _<_}
 use native.Mathlib.Omega.{arith}
 use lib.IntN.{ℤ, pos, negsuc}
-use lib.ListN.{length, getD, set, replicate}
+use lib.ListN.{length, getD, replicate}
 use Rattle.std.specs.Numbers.{maxZ}
 use Rattle.std.specs.Options.{valueOr}
 use Rattle.std.specs.declared.option.Option.{Option}
 use Rattle.std.specs.declared.option.Option.the-variants.{Some, None}
 use Rattle.std.proofs.shelf.Bits.{div-mul-add}
 use Rattle.std.proofs.shelf.Lists.{length-set, length-replicate, getD-set-other}
-use Rattle.std.proofs.shelf.Tests.{cases-lt, cond-both, eqb-true, eqb-false}
+use Rattle.std.proofs.shelf.Tests.{cond-both, eqb-true, eqb-false}
 use Rattle.plan.specs.Questions.{plan-answer}
 use Rattle.plan.specs.Scheme.{Scheme, sent-length}
-use Rattle.plan.proofs.Facts.{Facts, facts}
+use Rattle.plan.proofs.Facts.{facts}
 use Rattle.code.specs.Mapping.{symbol-at, number-of}
 use Rattle.code.specs.Numbers.{num, read, bit-of}
 use Rattle.code.proofs.Blocks.{num-below}
@@ -31,11 +30,11 @@ use Rattle.sender.proofs.Back.{comes-back}
 use Rattle.score.specs.Blocks.{value-at}
 use Rattle.search.specs.Looking.{Lengths}
 use Rattle.receiver.specs.Calls.{view-fits}
-use Rattle.receiver.specs.Values.{signed, heard, with-values}
+use Rattle.receiver.specs.Values.{signed, heard}
 use Rattle.receiver.specs.Views.{View}
 use Rattle.replay.specs.declared.call.Call.{Call}
 use Rattle.replay.specs.declared.call.Call.the-variants.{Hear, Note, Blank, Look}
-use Rattle.replay.specs.Heard.{touches, last-after, last-touching, HeardExactly, HeardAll}
+use Rattle.replay.specs.Heard.{touches, last-after, last-touching, HeardExactly}
 use Rattle.replay.specs.Ledger.{accepted, changed, after, after-all, ledger}
 use Rattle.replay.proofs.Loaded.{symbol-ends}
 use Rattle.replay.proofs.Signs.{Says, signed-says}

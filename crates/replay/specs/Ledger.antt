@@ -6,7 +6,7 @@ use Prim.Native.Nat.{ℕ, min}
 use lib.Dec.{eqb}
 use lib.IntN.{ℤ, pos}
 use lib.ListN.{replicate}
-use Rattle.plan.specs.Scheme.{Scheme, sent-length}
+use Rattle.plan.specs.Scheme.{sent-length}
 use Rattle.search.specs.Looking.{Lengths, search-answer}
 use Rattle.receiver.specs.Calls.{hear-answer, note-answer, blank-answer}
 use Rattle.receiver.specs.Values.{after-hear, after-note, after-blank}

@@ -30,6 +30,7 @@ use scrambler::Scrambler;
 use std::alloc::Global;
 
 // What each call answered, and the score of the block that the look after them showed, or why it showed none.
+#[derive(Drop)]
 pub struct Replayed<T> {
     pub answers: Vec<Result<(), ChainFault>>,
     pub shown: Result<T, ChainFault>,

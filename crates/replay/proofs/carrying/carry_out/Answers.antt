@@ -1,4 +1,4 @@
-use mathlib.Core.Path.{_≡_, refl, sym, ap, _∙_}
+use mathlib.Core.Path.{refl, sym, ap, _∙_}
 use Rattle.plan.specs.Plans.{plan-scheme}
 use Rattle.receiver.specs.Receivers.{view-of}
 use Rattle.replay.specs.Given.{given}

@@ -1,14 +1,12 @@
-use mathlib.Core.Path.{_≡_, refl, sym, ap, subst, _∙_}
-use mathlib.Core.Bool.{true, cond}
-use mathlib.Core.List.{_∷_, [], _++_}
-use Prim.Native.Nat.{_+_, _-_, _/_, _<_, _≤_}
+use mathlib.Core.Path.{_≡_, refl, ap, subst, _∙_}
+use mathlib.Core.Bool.{true}
+use Prim.Native.Nat.{_+_, _-_, _/_, _<_}
 use native.Mathlib.Omega.{arith}
 use lib.ListN.{length, getD, drop}
 use Rattle.std.specs.Of.Vec.{vec-items, vec-len, vec-cap}
 use Rattle.std.specs.Results.{isOk}
 use Rattle.std.proofs.shelf.Tests.{cond-true}
 use Rattle.receiver.specs.Receivers.{view-of}
-use Rattle.search.specs.Looking.{Lengths}
 use Rattle.replay.specs.Given.{given}
 use Rattle.replay.specs.Ledger.{answer, after}
 use Rattle.replay.specs.declared.call.Call.the-variants.{Hear}

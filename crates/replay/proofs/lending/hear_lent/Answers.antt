@@ -3,7 +3,6 @@ use Prim.Native.Nat.{_-_, min}
 use native.Mathlib.Nat.{sub-zero}
 use lib.ListN.{length}
 use Rattle.plan.proofs.Facts.{facts}
-use Rattle.plan.specs.Plans.{plan-scheme}
 use Rattle.search.specs.Looking.{Lengths}
 use Rattle.receiver.specs.Calls.{hear-answer}
 use Rattle.receiver.specs.Receivers.{view-of}

@@ -9,7 +9,6 @@ use Rattle.std.specs.Results.{isOk}
 use Rattle.std.proofs.shelf.Signed.{toZ-ofZ}
 use Rattle.receiver.specs.Values.{after-note}
 use Rattle.plan.proofs.Facts.{facts}
-use Rattle.plan.specs.Plans.{plan-scheme}
 use Rattle.search.specs.Looking.{Lengths}
 use Rattle.receiver.specs.Calls.{note-answer}
 use Rattle.receiver.specs.Receivers.{view-of}

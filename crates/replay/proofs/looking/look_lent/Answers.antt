@@ -1,12 +1,12 @@
-use mathlib.Core.Path.{_≡_, sym, ap, _∙_}
+use mathlib.Core.Path.{_≡_, ap, _∙_}
 use Prim.Native.Nat.{_-_, _/_, _<_, _≤_, min}
 use native.Mathlib.Nat.{sub-zero}
 use native.Mathlib.Omega.{arith}
-use lib.ListN.{length, take}
+use lib.ListN.{length}
 use Rattle.plan.proofs.Facts.{facts}
 use Rattle.plan.specs.Faults.{chain-number, outcome}
 use Rattle.plan.specs.Plans.{plan-scheme}
-use Rattle.search.specs.Looking.{Lengths, search-answer}
+use Rattle.search.specs.Looking.{search-answer}
 use Rattle.replay.specs.Given.{given}
 use Rattle.replay.specs.Ledger.{lent-of}
 use Rattle.replay.proofs.Kept.{part-long}
