@@ -80,7 +80,7 @@ fn weight_of(farther: f64) -> u16
     ensures low { λ r. ⌜ 1 ≤ r ⌝ }
     ensures high { λ r. ⌜ r ≤ 32767 ⌝ }
 {
-    saturating_f64_to_u64(farther * 4096.0).clamp(1, 32_767) as u16
+    saturating_f64_to_u64(farther * 1024.0).clamp(1, 32_767) as u16
 }
 
 // What is heard of a received point.

@@ -34,13 +34,28 @@ impl OnAir<'_> {
         })
     }
 
+    // The calls that hear every symbol once, in the order of sending, in which the air fades.
+    fn hearings(&self, heap: Global, air: &mut Air) -> Result<Vec<Call>, Trouble> {
+        let mut hearings = Vec::new(heap);
+        for place in 0..self.indices.len() {
+            hearings.push(self.hearing(air, place)?)?;
+        }
+        Ok(hearings)
+    }
+
     // The calls of one symbol: of 64, one is never heard, one is blanked, and eight are heard again.
-    fn call(&self, air: &mut Air, place: usize, calls: &mut Vec<Call>) -> Result<(), Trouble> {
+    fn call(
+        &self,
+        air: &mut Air,
+        place: usize,
+        first: Call,
+        calls: &mut Vec<Call>,
+    ) -> Result<(), Trouble> {
         let chance = air.generator.draw_below(64);
         if chance == 0 {
             return Ok(());
         }
-        calls.push(self.hearing(air, place)?)?;
+        calls.push(first)?;
         if chance == 1 {
             let lent = self.plan.sent_length();
             calls.push(Call::Blank { lent, place })?;
@@ -51,10 +66,13 @@ impl OnAir<'_> {
     }
 
     pub fn calls(&self, heap: Global, air: &mut Air) -> Result<Vec<Call>, Trouble> {
+        let hearings = self.hearings(heap, air)?;
         let order = shuffled_places(heap, air, self.indices.len())?;
         let mut calls = Vec::new(heap);
         for place in order.as_slice() {
-            self.call(air, *place, &mut calls)?;
+            if let Some(first) = hearings.as_slice().get(*place) {
+                self.call(air, *place, *first, &mut calls)?;
+            }
         }
         Ok(calls)
     }

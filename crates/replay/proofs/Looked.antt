@@ -1,25 +1,28 @@
 -- A look that is lent the first part of a block's memory, and of the values.
 -- Assumes nothing.
 use mathlib.Core.Path.{_≡_, refl, sym, ap, subst, _∙_}
-use mathlib.Core.Bool.{Bool, cond}
-use mathlib.Core.List.{List, _++_}
+use mathlib.Core.Bool.{Bool, true, cond}
+use mathlib.Core.List.{List, _++_, map}
 use Prim.Native.Nat.{ℕ, zero, suc, _+_, _%_, _<_, _≤_}
 use native.Mathlib.Nat.{mod-lt}
+use native.Mathlib.Numerals.{add-one}
 use native.Mathlib.Omega.{arith}
 use lib.Dec.{eqb}
 use lib.IntN.{ℤ}
 use lib.ListN.{length, set, take, drop}
+use Rattle.std.specs.Iters.{counting}
 use Rattle.std.specs.Results.{isOk}
 use Rattle.std.specs.Vec.{made}
 use Rattle.std.specs.declared.result.Result.{Result}
 use Rattle.std.specs.declared.result.Result.the-variants.{Ok, Err}
 use Rattle.std.proofs.shelf.Lists.{length-set, length-take-le, getD-append-left, take-append-drop, take-take, drop-set-lt}
-use Rattle.std.proofs.shelf.Tests.{and-parts, leb-true}
+use Rattle.std.proofs.shelf.Tests.{true≢false, and-parts, leb-true}
 use Rattle.plan.specs.Faults.{chain-number, outcome}
 use Rattle.plan.specs.Scheme.{Scheme, sent-length}
 use Rattle.plan.specs.declared.fault.ChainFault.{ChainFault}
 use Rattle.code.specs.Coding.{around, pair}
 use Rattle.code.specs.Numbers.{digit, bits-of}
+use Rattle.code.proofs.Filled.{Filled, filled-none, filled-more, filled-all}
 use Rattle.score.specs.Blocks.{value-at, step-score, score-after, block-score}
 use Rattle.score.specs.Scale.{Scale}
 use Rattle.search.specs.Looking.{Found, Lengths, long-enough, search-answer, shown}
@@ -97,3 +100,26 @@ module _ {S : Type 0} (k : Scale S) (s : Scheme) where
   pub shown-rest : {X : Type 0} (r : Result X ChainFault) (values : ℕ → ℤ) (block now : List ℕ) → now ≡ cond (isOk r) (shown k s values block) block → drop (s .block) now ≡ drop (s .block) block
   shown-rest (Ok score) values block now is = ap (drop (s .block)) is ∙ overwritten-rest (s .block) _ block (s .block) (omega arith)
   shown-rest (Err fault) values block now is = ap (drop (s .block)) is
+
+-- a block written over a memory: its bits, and what lay past them
+written : (n : ℕ) (u : ℕ → Bool) (bytes : List ℕ) → Filled (λ i. digit (u i)) n bytes (overwritten n u bytes)
+unfolding overwritten
+written zero u bytes = filled-none (λ i. digit (u i)) bytes
+written (suc n) u bytes =
+    subst (λ m. Filled (λ i. digit (u i)) m bytes (overwritten (suc n) u bytes)) (add-one n)
+    (filled-more (λ i. digit (u i)) n bytes (overwritten n u bytes) (digit (u n)) (written n u bytes) refl)
+
+-- so it does not matter what was written there before
+written-over : (n : ℕ) (u : ℕ → Bool) (before block : List ℕ) → n ≤ length before → n ≤ length block → drop n before ≡ drop n block → overwritten n u before ≡ overwritten n u block
+written-over n u before block h l e =
+    let f = λ (i : ℕ). digit (u i) in
+    filled-all f n before (overwritten n u before) h (written n u before) ∙ ap (λ rest. map f (counting 0 n) ++ rest) e
+    ∙ sym (filled-all f n block (overwritten n u block) l (written n u block))
+
+-- the block that a look shows, over what the memory held before the calls
+pub shown-over : {S : Type 0} (k : Scale S) (s : Scheme) (r : Result S ChainFault) (l : Lengths) (values : ℕ → ℤ) (block before now : List ℕ) →
+    outcome chain-number r ≡ search-answer s l → l .block ≡ length block → length before ≡ length block → drop (s .block) before ≡ drop (s .block) block →
+    now ≡ cond (isOk r) (shown k s values before) before → isOk r ≡ true → now ≡ shown k s values block
+shown-over k s (Ok score) l values block before now e size long rest is yes-said =
+    is ∙ written-over (s .block) _ before block (omega (arith, block-yes s l (sym e))) (omega (arith, block-yes s l (sym e))) rest
+shown-over k s (Err fault) l values block before now e size long rest is yes-said = absurd (true≢false (sym yes-said))

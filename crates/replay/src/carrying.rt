@@ -29,6 +29,7 @@ fn answer_of<T: Copy>(shown: Result<T, ChainFault>) -> Result<(), ChainFault>
     }
 }
 
+// Carries out one call.
 fn carry_out<S: Scrambler + Drop, K: Kind>(
     receiver: &mut Receiver<S>,
     kind: &K,

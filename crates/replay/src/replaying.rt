@@ -10,7 +10,8 @@ ghost use Rattle.plan.specs.Plans.{plan-scheme};
 ghost use Rattle.plan.specs.Scheme.{sent-length};
 ghost use Rattle.receiver.specs.Calls.{making-answer};
 ghost use Rattle.receiver.specs.Receivers.{view};
-ghost use Rattle.search.specs.Looking.{search-answer};
+ghost use Rattle.score.specs.Blocks.{value-at};
+ghost use Rattle.search.specs.Looking.{search-answer, shown};
 ghost use Rattle.std.specs.Of.Vec.{vec-items};
 ghost use Rattle.std.specs.Results.{isOk};
 ghost use Rattle.std.specs.Vec.{made};
@@ -53,6 +54,7 @@ pub fn replay<S: Scrambler + Drop, K: Kind>(
     ensures answers { λ r. let v = view plan (meaning scrambler) in let w = given (now (memory .entry)) (now (block .entry)) (now (scores .entry)) (now (marks .entry)) in ⌜ made r (λ x. map (outcome chain-number) (vec-items (x .answers)) ≡ answers v w (now (calls .entry))) ⌝ }
     ensures looked { λ r. let w = given (now (memory .entry)) (now (block .entry)) (now (scores .entry)) (now (marks .entry)) in ⌜ made r (λ x. outcome chain-number (x .shown) ≡ search-answer (plan-scheme plan) w) ⌝ }
     ensures promise { λ r. let v = view plan (meaning scrambler) in let w = given (now (memory .entry)) (now (block .entry)) (now (scores .entry)) (now (marks .entry)) in ⌜ made r (λ x. made (x .shown) (λ score. Promise (K·Kind .scale (now (kind .entry))) v w (now (calls .entry)) (bits-of (now (block .exit))) score)) ⌝ }
+    ensures written { λ r. let s = plan-scheme plan in let w = given (now (memory .entry)) (now (block .entry)) (now (scores .entry)) (now (marks .entry)) in ⌜ made r (λ x. isOk (x .shown) ≡ true → now (block .exit) ≡ shown (K·Kind .scale (now (kind .entry))) s (value-at (ledger (view plan (meaning scrambler)) w (now (calls .entry)))) (now (block .entry))) ⌝ }
     ensures values { λ r. let v = view plan (meaning scrambler) in let w = given (now (memory .entry)) (now (block .entry)) (now (scores .entry)) (now (marks .entry)) in ⌜ (isOk r ≡ true → take (sent-length (plan-scheme plan)) (now (memory .exit)) ≡ ledger v w (now (calls .entry))) ⌝ }
     ensures rest { λ _. let n = sent-length (plan-scheme plan) in ⌜ drop n (now (memory .exit)) ≡ drop n (now (memory .entry)) ⌝ }
     ensures past { λ _. let b = plan-scheme plan .block in ⌜ drop b (now (block .exit)) ≡ drop b (now (block .entry)) ⌝ }

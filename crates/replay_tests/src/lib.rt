@@ -66,6 +66,15 @@ mod tests {
         }
     }
 
+    fn number(answer: Result<(), ChainFault>) -> u8 {
+        match answer {
+            Ok(()) => 0,
+            Err(ChainFault::TooShort) => 13,
+            Err(ChainFault::Place) => 14,
+            Err(_) => 255,
+        }
+    }
+
     // The block 100000000 goes on the air as 6, 5, 3, 3; what is noted before is heard over, a refused call changes nothing.
     #[test]
     fn comes_back(rt: LibcRuntime) -> Result<(), Fail> {
@@ -97,11 +106,15 @@ mod tests {
         };
         let answers = done.answers.as_slice();
         check_eq(answers.len(), 8)?;
-        check_eq(answers[4], Ok(()))?;
-        check_eq(answers[5], Err(ChainFault::Place))?;
-        check_eq(answers[6], Err(ChainFault::TooShort))?;
-        check_eq(answers[7], Err(ChainFault::TooShort))?;
-        check_eq(done.shown, Ok(0))?;
+        check_eq(number(answers[0]), 0)?;
+        check_eq(number(answers[4]), 0)?;
+        check_eq(number(answers[5]), 14)?;
+        check_eq(number(answers[6]), 13)?;
+        check_eq(number(answers[7]), 13)?;
+        let Ok(score) = done.shown else {
+            return Err(Fail::new("not shown"));
+        };
+        check_eq(score, 0)?;
         check_eq(memory[12], 9)?;
         check_eq(block, [1, 0, 0, 0, 0, 0, 0, 0, 0, 7])
     }

@@ -1,21 +1,23 @@
-use mathlib.Core.Path.{_≡_, sym, ap, subst, _∙_}
+use mathlib.Core.Path.{_≡_, refl, sym, ap, subst, _∙_}
 use mathlib.Core.Bool.{cond}
 use Prim.Native.Nat.{_-_, _/_}
-use lib.ListN.{length, drop}
+use lib.ListN.{length, take, drop}
 use Rattle.std.specs.Results.{isOk}
 use Rattle.std.specs.declared.result.Result.the-variants.{Ok}
 use Rattle.std.proofs.shelf.Tests.{true≢false}
 use Rattle.plan.specs.Faults.{chain-number, outcome}
 use Rattle.plan.specs.Plans.{plan-scheme}
+use Rattle.plan.specs.Scheme.{sent-length}
 use Rattle.plan.proofs.Facts.{facts}
 use Rattle.receiver.specs.Calls.{making-answer}
 use Rattle.receiver.specs.Receivers.{view, view-of}
 use Rattle.receiver.specs.Values.{after-making}
-use Rattle.search.specs.Looking.{search-answer}
+use Rattle.score.specs.Blocks.{value-at}
+use Rattle.search.specs.Looking.{search-answer, shown}
 use Rattle.replay.specs.Given.{given}
-use Rattle.replay.specs.Ledger.{answers, after-all}
+use Rattle.replay.specs.Ledger.{answers, after-all, ledger}
 use Rattle.replay.proofs.Kept.{ledger-front, ledger-rest}
-use Rattle.replay.proofs.Looked.{shown-rest}
+use Rattle.replay.proofs.Looked.{shown-rest, shown-over}
 use Rattle.replay.proofs.Whole.{making-yes, made-of, lent-whole, promise-made}
 use Rattle.replay.proofs.replaying.replay.Needs as need
 
@@ -45,17 +47,24 @@ returns g c =
     let front = ledger-front v known whole calls memory (c .run .last .memory) (making .1) all in
     let lent = lent-whole memory (c .run .last .memory) block (c .run .last .block) (a .scores .now) (c .run .last .scores) (a .marks .now) (c .run .last .marks)
     (c .run .kept .memory ∙ c .new .kept .memory) (c .run .kept .block) (c .run .kept .scores) (c .run .kept .marks) in
+    let past-run : drop (s .block) (c .run .last .block) ≡ drop (s .block) block =
+    subst (λ n. drop n (c .run .last .block) ≡ drop n block) (ap (λ w. w .scheme .block) view-made) (c .run .ensures .rest) in
+    let looked : outcome chain-number (c .look-lent-shown .result) ≡ search-answer s whole =
+    c .look-lent-shown .ensures .answer ∙ (λ x. search-answer (view-run x .scheme) (lent x)) in
+    let block-shown : c .look-lent-shown .last .block ≡ cond (isOk (c .look-lent-shown .result)) (shown k s (value-at (ledger v whole calls)) (c .run .last .block)) (c .run .last .block) =
+    c .look-lent-shown .ensures .block
+    ∙ (λ x. cond (isOk (c .look-lent-shown .result)) (shown k (view-run x .scheme) (value-at (take (sent-length (view-run x .scheme)) (c .run .last .memory))) (c .run .last .block)) (c .run .last .block))
+    ∙ ap (λ l. cond (isOk (c .look-lent-shown .result)) (shown k s (value-at l) (c .run .last .block)) (c .run .last .block)) front in
     record {
       answer = λ _. sym yes-said;
       answers = c .run .ensures .answers ∙ (λ x. answers (view-made x) (whole-made x) calls);
-      looked = c .look-lent-shown .ensures .answer ∙ (λ x. search-answer (view-run x .scheme) (lent x));
+      looked = looked;
       promise = promise-made k (g .K·Kind·met .lawful (a .kind .now)) v (a .plan .accepted) (g .S·Scrambler·met .bounded (a .scrambler)) (making .0) whole calls
           (c .look-lent-shown .result) _ (c .run .last .memory) _ (ap (λ w. w .scheme) view-run) front (c .look-lent-shown .ensures .found);
+      written = shown-over k s (c .look-lent-shown .result) whole (value-at (ledger v whole calls)) block (c .run .last .block) (c .look-lent-shown .last .block) looked refl (c .run .kept .block) past-run block-shown;
       values = λ _. front;
       rest = ledger-rest v known whole calls memory (c .run .last .memory) all;
-      past = subst (λ n. drop n (c .look-lent-shown .last .block) ≡ drop n (c .run .last .block)) (ap (λ w. w .scheme .block) view-run)
-          (shown-rest k (plan-scheme (c .run .last .receiver .plan)) (c .look-lent-shown .result) _ (c .run .last .block) (c .look-lent-shown .last .block) (c .look-lent-shown .ensures .block))
-          ∙ subst (λ n. drop n (c .run .last .block) ≡ drop n block) (ap (λ w. w .scheme .block) view-made) (c .run .ensures .rest);
+      past = shown-rest k s (c .look-lent-shown .result) _ (c .run .last .block) (c .look-lent-shown .last .block) block-shown ∙ past-run;
       memory = λ e. absurd (true≢false e);
       block = λ e. absurd (true≢false e);
       scores = λ e. absurd (true≢false e);
