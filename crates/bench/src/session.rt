@@ -91,7 +91,7 @@ fn look(
 }
 
 impl Session {
-    pub fn new(heap: Global) -> Session {
+    pub(crate) fn new(heap: Global) -> Session {
         Session {
             plan: None,
             receiver: None,
@@ -100,7 +100,7 @@ impl Session {
     }
 
     // The answer to a line with this number.
-    pub fn answer(&mut self, heap: Global, line: &Line, number: u16) -> Answer {
+    pub(crate) fn answer(&mut self, heap: Global, line: &Line, number: u16) -> Answer {
         match self.run(heap, line) {
             Ok(answer) => answer,
             Err(fault) => Answer::Refused {

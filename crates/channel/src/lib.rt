@@ -11,6 +11,4 @@ pub use generator::Generator;
 pub use hearing::Heard;
 pub use hearing::PhasesOnly;
 pub use hearing::PhasesOnlyDisplay;
-pub use noise::noise_amplitude;
 pub use phase::Point;
-pub use phase::point_of;

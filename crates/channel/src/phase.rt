@@ -10,7 +10,7 @@ pub struct Point {
 const SLANT: f64 = 0.7071067811865476;
 
 // The point of an on-air index, an eighth of a turn for each.
-pub fn point_of(index: u8) -> Point {
+pub(crate) fn point_of(index: u8) -> Point {
     let (x, y) = match index % 8 {
         0 => (1.0, 0.0),
         1 => (SLANT, SLANT),

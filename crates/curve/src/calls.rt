@@ -65,7 +65,7 @@ impl OnAir<'_> {
         Ok(())
     }
 
-    pub fn calls(&self, heap: Global, air: &mut Air) -> Result<Vec<Call>, Trouble> {
+    pub(crate) fn calls(&self, heap: Global, air: &mut Air) -> Result<Vec<Call>, Trouble> {
         let hearings = self.hearings(heap, air)?;
         let order = shuffled_places(heap, air, self.indices.len())?;
         let mut calls = Vec::new(heap);

@@ -18,7 +18,7 @@ fn shifted(remainder: u32) -> u32 {
     }
 }
 
-pub fn crc32(bytes: &[u8]) -> u32 {
+pub(crate) fn crc32(bytes: &[u8]) -> u32 {
     let mut remainder = u32::MAX;
     for byte in bytes {
         remainder = taken_in(remainder, *byte);

@@ -9,7 +9,7 @@ pub struct Choice {
 
 impl Choice {
     // The row that is run where none is named: 136 bits in, 1,088 out.
-    pub fn usual() -> Choice {
+    pub(crate) fn usual() -> Choice {
         Choice {
             row: Row {
                 bandwidth: 24,
@@ -21,7 +21,7 @@ impl Choice {
     }
 
     // The row with the most bits in a block.
-    pub fn longest() -> Choice {
+    pub(crate) fn longest() -> Choice {
         Choice {
             row: Row {
                 bandwidth: 48,
@@ -47,7 +47,7 @@ pub struct Run {
 
 impl Run {
     // A run of a few seconds.
-    pub fn usual() -> Run {
+    pub(crate) fn usual() -> Run {
         Run {
             choice: Choice::usual(),
             from: -10,

@@ -43,13 +43,13 @@ impl Dot {
     }
 
     // Bit errors for each bit.
-    pub fn rate(&self) -> f64 {
+    pub(crate) fn rate(&self) -> f64 {
         nearest_u64_to_f64(self.bit_errors as u64) / nearest_u64_to_f64(self.bits as u64)
     }
 }
 
 // A dot for each ratio; how far it has come goes to standard error.
-pub fn dots_of(rt: &LibcRuntime, run: Run) -> Result<Vec<Dot>, Trouble> {
+pub(crate) fn dots_of(rt: &LibcRuntime, run: Run) -> Result<Vec<Dot>, Trouble> {
     let mut dots = Vec::new(rt.alloc());
     for decibels in run.from..=run.to {
         let dot = dot_at(rt.alloc(), run, decibels)?;

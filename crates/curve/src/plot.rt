@@ -6,7 +6,7 @@ use std::io;
 // The rates at which the plot has a line, and under them a line for less.
 static LEVELS: [f64; 10] = [0.5, 0.2, 0.1, 0.05, 0.02, 0.01, 0.005, 0.002, 0.001, 0.0005];
 
-pub fn show_dots(rt: &LibcRuntime, dots: &[Dot]) -> io::Result<()> {
+pub(crate) fn show_dots(rt: &LibcRuntime, dots: &[Dot]) -> io::Result<()> {
     println!(
         rt,
         "   dB  blocks      bits  bit errors  block errors     rate         score"
@@ -34,7 +34,7 @@ fn show_dot(rt: &LibcRuntime, dot: &Dot) -> io::Result<()> {
 }
 
 // A line for each level, a column for each ratio.
-pub fn show_plot(rt: &LibcRuntime, choice: Choice, dots: &[Dot]) -> io::Result<()> {
+pub(crate) fn show_plot(rt: &LibcRuntime, choice: Choice, dots: &[Dot]) -> io::Result<()> {
     println!(rt, "bit error rate")?;
     for (i, level) in LEVELS.iter().enumerate() {
         print!(rt, "{level:>7.4} |")?;

@@ -18,7 +18,7 @@ pub enum Request {
 }
 
 // The request of these arguments: a word first, or a row and options.
-pub fn request_of(words: &[String]) -> Result<Request, Slip> {
+pub(crate) fn request_of(words: &[String]) -> Result<Request, Slip> {
     let [word, rest @ ..] = words else {
         return Ok(Request::Curve(Run::usual()));
     };

@@ -18,7 +18,7 @@ pub struct Sent {
 }
 
 // Draws a block of the plan's length and sends it, scrambled by the register.
-pub fn drawn_and_sent(
+pub(crate) fn drawn_and_sent(
     heap: Global,
     plan: &Plan,
     generator: &mut Generator,

@@ -28,7 +28,7 @@ const LINE: usize = 68;
 const SHOWN: usize = 272;
 
 // The standard's table, with a line that says what its numbers are.
-pub fn show_rows(rt: &LibcRuntime) -> io::Result<()> {
+pub(crate) fn show_rows(rt: &LibcRuntime) -> io::Result<()> {
     println!(
         rt,
         "waveform, rate, bits of a symbol, symbols of a frame; for each interleaver: frames, bits sent, bits of a block, increment"
@@ -37,7 +37,7 @@ pub fn show_rows(rt: &LibcRuntime) -> io::Result<()> {
 }
 
 // Counts the dots of a run, and shows them as lines and as a plot, or as SVG alone.
-pub fn show_curve(rt: &LibcRuntime, run: Run) -> Result<(), Trouble> {
+pub(crate) fn show_curve(rt: &LibcRuntime, run: Run) -> Result<(), Trouble> {
     let dots = dots_of(rt, run)?;
     if run.svg {
         return Ok(show_svg(rt, run.choice, dots.as_slice())?);
@@ -50,7 +50,7 @@ pub fn show_curve(rt: &LibcRuntime, run: Run) -> Result<(), Trouble> {
 }
 
 // Draws a block, sends it, and shows the row, the block and the first frame.
-pub fn show_sent(rt: &LibcRuntime, choice: Choice) -> Result<(), Trouble> {
+pub(crate) fn show_sent(rt: &LibcRuntime, choice: Choice) -> Result<(), Trouble> {
     let plan = choice.row.plan(rt.alloc(), choice.constraint)?;
     show_choice(rt, choice)?;
     show_plan(rt, &plan)?;
@@ -61,7 +61,7 @@ pub fn show_sent(rt: &LibcRuntime, choice: Choice) -> Result<(), Trouble> {
 }
 
 // The same of the longest row, without the digits; how long it took goes to standard error.
-pub fn show_time(rt: &LibcRuntime) -> Result<(), Trouble> {
+pub(crate) fn show_time(rt: &LibcRuntime) -> Result<(), Trouble> {
     let choice = Choice::longest();
     let plan = choice.row.plan(rt.alloc(), choice.constraint)?;
     show_choice(rt, choice)?;
@@ -73,7 +73,7 @@ pub fn show_time(rt: &LibcRuntime) -> Result<(), Trouble> {
     Ok(show_checksum(rt, sent.indices.as_slice())?)
 }
 
-pub fn interleaver_name(interleaver: usize) -> &'static str {
+pub(crate) fn interleaver_name(interleaver: usize) -> &'static str {
     match interleaver {
         0 => "ultra short",
         1 => "short",

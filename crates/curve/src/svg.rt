@@ -32,7 +32,7 @@ fn across(column: usize) -> usize {
     column.saturating_mul(50).saturating_add(90)
 }
 
-pub fn show_svg(rt: &LibcRuntime, choice: Choice, dots: &[Dot]) -> io::Result<()> {
+pub(crate) fn show_svg(rt: &LibcRuntime, choice: Choice, dots: &[Dot]) -> io::Result<()> {
     let wide = across(dots.len());
     println!(
         rt,

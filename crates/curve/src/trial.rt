@@ -32,7 +32,7 @@ pub struct Outcome {
 }
 
 // Draws a block, sends it through the air, and decodes what is heard.
-pub fn trial(heap: Global, choice: Choice, air: &mut Air) -> Result<Outcome, Trouble> {
+pub(crate) fn trial(heap: Global, choice: Choice, air: &mut Air) -> Result<Outcome, Trouble> {
     let plan = choice.row.plan(heap, choice.constraint)?;
     let sent = drawn_and_sent(heap, &plan, &mut air.generator)?;
     let values = frame_values(heap, &plan)?;

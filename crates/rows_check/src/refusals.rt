@@ -3,7 +3,7 @@ use plan::ChainFaultDisplay;
 use rows::Row;
 use std::io;
 
-pub fn print_all(rt: &LibcRuntime) -> io::Result<()> {
+pub(crate) fn print_all(rt: &LibcRuntime) -> io::Result<()> {
     for (bandwidth, waveform, interleaver, constraint) in [
         (18, 4, 0, 7),
         (6, 13, 0, 9),
