@@ -1,25 +1,23 @@
 // The bench: reads lines from standard input, and answers each.
-use lines::Line;
-use lines::answer_text;
+use lines::{Line, answer_text};
 use session::Session;
 use std::io;
-use std::io::BufReader;
-use std::io::Read;
+use std::io::{BufReader, Read};
 
 mod session;
 
 // Answers the line that has come in.
-fn answer(rt: &LibcRuntime, session: &mut Session, line: &Line, number: u16) -> io::Result<()> {
+fn answer(rt: &HostRuntime, session: &mut Session, line: &Line, number: u16) -> io::Result<()> {
     let answer = session.answer(rt.alloc(), line, number);
     let text = answer_text(rt.alloc(), &answer)?;
     rt.print(text)
 }
 
-fn main(rt: LibcRuntime) -> io::Result<()> {
+fn main(rt: HostRuntime) -> io::Result<()> {
     let mut session = Session::new(rt.alloc());
     let mut line = Line::new(rt.alloc());
     let mut number: u16 = 1;
-    for byte in BufReader::new(rt.stdin()).bytes() {
+    for byte in BufReader::new(rt.alloc(), rt.stdin())?.bytes() {
         let byte = byte?;
         if byte != b'\n' {
             line.push(byte)?;

@@ -1,36 +1,22 @@
 // What the bench holds between lines: a plan, and the receiver that a table made by it.
-ghost use mathlib.Core.Path.{_≡_};
-ghost use Rattle·lines.specs.Faults.{line-number};
-ghost use Rattle·lines.specs.Plans.{plan-line-answer};
-ghost use Rattle·plan.specs.Faults.{outcome};
-ghost use Rattle·plan.specs.Parts.{scheme};
-ghost use Rattle·plan.specs.Plans.{plan-scheme};
-ghost use Rattle·bench·specs.Order.{asked};
-ghost use Rattle·receiver.specs.Calls.{hear-answer, note-answer, blank-answer};
-ghost use Rattle·receiver.specs.Receivers.{view-of};
-ghost use Rattle·scrambler.specs.Meanings.{table-meaning};
-ghost use Rattle·std.specs.Of.Vec.{vec-len};
-ghost use Rattle·std.specs.Vec.{made};
-use lines::Answer;
-use lines::Command;
-use lines::Line;
-use lines::LineFault;
-use lines::LineFromAlloc;
-use lines::LineFromChain;
-use lines::accept_plan;
-use plan::ChainFault;
-use plan::ChainFromAlloc;
-use plan::ChainFromPlan;
-use plan::Parts;
-use plan::Plan;
+ghost use Rattle.std.specs.Prelude.{◌≡◌, IfOk, vec_len};
+ghost use Rattle.lines.specs.Faults.{line_number};
+ghost use Rattle.lines.specs.Plans.{plan_line_answer};
+ghost use Rattle.plan.specs.Faults.{outcome};
+ghost use Rattle.plan.specs.Parts.{scheme};
+ghost use Rattle.plan.specs.Plans.{plan_scheme};
+ghost use Rattle.bench.specs.Order.{asked};
+ghost use Rattle.receiver.specs.Calls.{hear_answer, note_answer, blank_answer};
+ghost use Rattle.receiver.specs.Receivers.{view_of};
+ghost use Rattle.scrambler.specs.Meanings.{table_meaning};
+
+use lines::{Answer, Command, Line, LineFault, accept_plan};
+use plan::{ChainFault, Parts, Plan};
 use receiver::Receiver;
 use score::Total;
-use score::TotalKind;
 use scrambler::Table;
-use scrambler::TableScrambler;
 use sender::needed_width;
-use std::alloc::AllocError;
-use std::alloc::Global;
+use std::alloc::{AllocError, Global};
 use trellis::Column;
 
 #[derive(Drop)]
@@ -45,20 +31,18 @@ pub struct Session {
 
 // A second plan of the same parts.
 fn copy(heap: Global, plan: &Plan) -> Result<Plan, ChainFault>
-    ensures { λ r. ⌜ made r (λ p. plan-scheme p ≡ plan-scheme (now (plan .entry))) ⌝ }
+    ensures { IfOk result (λ p. plan_scheme p ≡ plan_scheme plan.now) }
 {
     let parts = plan.parts();
-    Ok(
-        Plan::new(Parts {
-            constraint: parts.constraint,
-            period: parts.period,
-            send_list: Vec::from_slice(heap, parts.send_list.as_slice())?,
-            block_length: parts.block_length,
-            symbol_bits: parts.symbol_bits,
-            frame_length: parts.frame_length,
-            increment: parts.increment,
-        })?,
-    )
+    Ok(Plan::new(Parts {
+        constraint: parts.constraint,
+        period: parts.period,
+        send_list: Vec::from_slice(heap, parts.send_list.as_slice())?,
+        block_length: parts.block_length,
+        symbol_bits: parts.symbol_bits,
+        frame_length: parts.frame_length,
+        increment: parts.increment,
+    })?)
 }
 
 // The best block of a receiver with these parts, and its score.
@@ -126,7 +110,7 @@ impl Session {
     }
 
     fn take_plan(&mut self, parts: Parts) -> Result<Answer, LineFault>
-        ensures { λ r. ⌜ outcome line-number r ≡ plan-line-answer (scheme parts) ⌝ }
+        ensures { outcome line_number result ≡ plan_line_answer (scheme parts) }
     {
         let plan = accept_plan(parts)?;
         self.plan = Some(plan);
@@ -148,7 +132,7 @@ impl Session {
     }
 
     fn hear(&mut self, place: usize, index: u8, weight: u16) -> Result<Answer, LineFault>
-        ensures { λ r. ⌜ outcome line-number r ≡ asked (now (self .entry) .receiver) (λ x. hear-answer (view-of table-meaning x) (vec-len (now (self .entry) .memory)) place index weight) ⌝ }
+        ensures { outcome line_number result ≡ asked self.old.receiver (λ x. hear_answer (view_of table_meaning x) (vec_len self.old.memory) place index weight) }
     {
         let Some(receiver) = &mut self.receiver else {
             return Err(LineFault::Order);
@@ -158,7 +142,7 @@ impl Session {
     }
 
     fn note(&mut self, location: usize, value: i16) -> Result<Answer, LineFault>
-        ensures { λ r. ⌜ outcome line-number r ≡ asked (now (self .entry) .receiver) (λ x. note-answer (plan-scheme (x .plan)) (vec-len (now (self .entry) .memory)) location value) ⌝ }
+        ensures { outcome line_number result ≡ asked self.old.receiver (λ x. note_answer (plan_scheme x.plan) (vec_len self.old.memory) location value) }
     {
         let Some(receiver) = &mut self.receiver else {
             return Err(LineFault::Order);
@@ -168,7 +152,7 @@ impl Session {
     }
 
     fn blank(&mut self, place: usize) -> Result<Answer, LineFault>
-        ensures { λ r. ⌜ outcome line-number r ≡ asked (now (self .entry) .receiver) (λ x. blank-answer (plan-scheme (x .plan)) (vec-len (now (self .entry) .memory)) place) ⌝ }
+        ensures { outcome line_number result ≡ asked self.old.receiver (λ x. blank_answer (plan_scheme x.plan) (vec_len self.old.memory) place) }
     {
         let Some(receiver) = &mut self.receiver else {
             return Err(LineFault::Order);

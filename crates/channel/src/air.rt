@@ -1,18 +1,13 @@
 // The air between sender and receiver: a slow fade, and noise.
-ghost use mathlib.Core.Bool.{false};
-ghost use mathlib.Core.Path.{_≡_};
-ghost use lib.Dec.{leb};
-ghost use Rattle·channel·specs.Hearing.{Hearable};
-ghost use Rattle·plan.specs.Plans.{plan-scheme};
-ghost use Rattle·std.specs.Results.{isOk};
-ghost use Rattle·std.specs.Vec.{made};
+ghost use Rattle.std.specs.Prelude.{◌≡◌, false, is_ok, IfOk, nat_le};
+ghost use Rattle.channel.specs.Hearing.{Hearable};
+ghost use Rattle.plan.specs.Plans.{plan_scheme};
+
 use crate::decision::decide;
 use crate::generator::Generator;
-use crate::hearing::Heard;
-use crate::hearing::PhasesOnly;
+use crate::hearing::{Heard, PhasesOnly};
 use crate::noise::noise_amplitude;
-use crate::phase::Point;
-use crate::phase::point_of;
+use crate::phase::{Point, point_of};
 use plan::Plan;
 
 #[derive(Clone, Copy)]
@@ -45,7 +40,7 @@ fn kept_within(amplitude: f64) -> f64 {
 impl Air {
     // Air in which a symbol has so many decibels more power than the noise, before it fades.
     pub fn new(seed: u64, decibels: i8) -> Air
-        ensures { λ r. ⌜ r .generator .state ≡ seed ⌝ }
+        ensures { result.generator.state ≡ seed }
     {
         Air {
             generator: Generator::new(seed),
@@ -56,9 +51,9 @@ impl Air {
 
     // What is heard of a symbol that is sent with this on-air index, where the scrambler has this value.
     pub fn hear(&mut self, plan: &Plan, value: u8, index: u8) -> Result<Heard, PhasesOnly>
-        ensures answer { λ r. ⌜ isOk r ≡ leb (plan-scheme (now (plan .entry)) .bits) 3 ⌝ }
-        ensures made { λ r. ⌜ made r (λ h. Hearable (plan-scheme (now (plan .entry)) .bits) value h) ⌝ }
-        ensures refused { λ r. ⌜ (isOk r ≡ false → now (self .exit) ≡ now (self .entry)) ⌝ }
+        ensures answer { is_ok result ≡ nat_le (plan_scheme plan.now).bits 3 }
+        ensures made { IfOk result (λ h. Hearable (plan_scheme plan.now).bits value h) }
+        ensures refused { is_ok result ≡ false → self.new ≡ self.old }
     {
         if plan.parts().symbol_bits > 3 {
             return Err(PhasesOnly);

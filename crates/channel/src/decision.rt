@@ -1,13 +1,10 @@
 // The decision for a received point: the nearest candidate, and how much nearer it is than the next.
-ghost use mathlib.Core.Logic.{_⊎_};
-ghost use mathlib.Core.Path.{_≡_};
-ghost use Prim.Native.Nat.{_^_, _<_, _≤_};
-ghost use Rattle·channel·specs.Hearing.{candidate, Sendable, Hearable};
-ghost use Rattle·plan.specs.Plans.{plan-scheme};
+ghost use Rattle.std.specs.Prelude.{◌≡◌, ◌^◌, ◌<◌, ◌≤◌, ◌⊎◌};
+ghost use Rattle.channel.specs.Hearing.{candidate, Sendable, Hearable};
+ghost use Rattle.plan.specs.Plans.{plan_scheme};
+
 use crate::hearing::Heard;
-use crate::phase::Point;
-use crate::phase::point_of;
-use crate::phase::square_apart;
+use crate::phase::{Point, point_of, square_apart};
 use code::symbol_for;
 use plan::Plan;
 use sender::scramble;
@@ -23,14 +20,14 @@ struct Nearest {
 
 // The on-air index of bits that write this number.
 fn index_of(plan: &Plan, value: u8, number: u8) -> u8
-    ensures { λ r. ⌜ r ≡ candidate (plan-scheme (now (plan .entry)) .bits) value number ⌝ }
+    ensures { result ≡ candidate (plan_scheme plan.now).bits value number }
 {
     scramble(plan.parts().symbol_bits, symbol_for(plan, number), value)
 }
 
 // Takes one more candidate into account.
 fn nearer(best: Nearest, index: u8, apart: f64) -> Nearest
-    ensures { λ r. ⌜ (r .index ≡ best .index) ⊎ (r .index ≡ index) ⌝ }
+    ensures { (result.index ≡ best.index) ⊎ (result.index ≡ index) }
 {
     if apart < best.near {
         Nearest {
@@ -51,8 +48,8 @@ fn nearer(best: Nearest, index: u8, apart: f64) -> Nearest
 
 // The nearest of all candidates.
 fn nearest_of_all(plan: &Plan, value: u8, received: Point) -> Nearest
-    requires { ⌜ plan-scheme (now plan) .bits ≤ 3 ⌝ }
-    ensures { λ r. ⌜ Sendable (plan-scheme (now (plan .entry)) .bits) value (r .index) ⌝ }
+    requires { (plan_scheme plan.now).bits ≤ 3 }
+    ensures { Sendable (plan_scheme plan.now).bits value result.index }
 {
     let first = index_of(plan, value, 0);
     let mut best = Nearest {
@@ -69,24 +66,24 @@ fn nearest_of_all(plan: &Plan, value: u8, received: Point) -> Nearest
 
 // How many numbers the bits of a symbol write.
 fn numbers_of(plan: &Plan) -> u8
-    requires { ⌜ plan-scheme (now plan) .bits ≤ 3 ⌝ }
-    ensures { λ r. ⌜ r ≡ 2 ^ plan-scheme (now (plan .entry)) .bits ⌝ }
+    requires { (plan_scheme plan.now).bits ≤ 3 }
+    ensures { result ≡ 2 ^ (plan_scheme plan.now).bits }
 {
     1 << plan.parts().symbol_bits
 }
 
 // The weight of a squared distance by which the next candidate is farther.
 fn weight_of(farther: f64) -> u16
-    ensures low { λ r. ⌜ 1 ≤ r ⌝ }
-    ensures high { λ r. ⌜ r ≤ 32767 ⌝ }
+    ensures low { 1 ≤ result }
+    ensures high { result ≤ 32767 }
 {
     saturating_f64_to_u64(farther * 1024.0).clamp(1, 32_767) as u16
 }
 
 // What is heard of a received point.
 pub(crate) fn decide(plan: &Plan, value: u8, received: Point) -> Heard
-    requires { ⌜ plan-scheme (now plan) .bits ≤ 3 ⌝ }
-    ensures { λ r. ⌜ Hearable (plan-scheme (now (plan .entry)) .bits) value r ⌝ }
+    requires { (plan_scheme plan.now).bits ≤ 3 }
+    ensures { Hearable (plan_scheme plan.now).bits value result }
 {
     let best = nearest_of_all(plan, value, received);
     Heard {

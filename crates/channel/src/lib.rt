@@ -8,7 +8,5 @@ mod phase;
 
 pub use air::Air;
 pub use generator::Generator;
-pub use hearing::Heard;
-pub use hearing::PhasesOnly;
-pub use hearing::PhasesOnlyDisplay;
+pub use hearing::{Heard, PhasesOnly};
 pub use phase::Point;

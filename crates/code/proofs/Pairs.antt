@@ -1,74 +1,66 @@
 -- One step of the encoder: the window, its pair, the two places of the code word, the next state.
 -- Assumes nothing.
-use mathlib.Core.Path.{_≡_, refl, sym, ap, subst, _∙_}
-use mathlib.Core.Bool.{Bool, true, false, cond}
-use mathlib.Core.List.{List}
-use mathlib.Core.Logic.{_⊎_}
-use Prim.Native.Nat.{ℕ, zero, suc, _+_, _-_, _*_, _/_, _%_, _^_, _<_, _≤_}
+use Rattle.std.proofs.Common.{◌≡◌, ℕ, zero, suc, ◌+◌, ◌-◌, ◌*◌, ◌/◌, ◌%◌, ◌^◌, ◌<◌, ◌≤◌, Bool, true, false, cond, eqb, ◌⊎◌, List, length, set, sym, refl, ap, ◌∙◌, subst, add-one, arith}
 use native.Mathlib.Nat.{mod-add-mod}
-use native.Mathlib.Numerals.{add-one}
-use native.Mathlib.Omega.{arith}
-use lib.Bits.{bitAnd}
-use lib.Dec.{eqb}
-use lib.ListN.{length, set}
-use Rattle·std.proofs.shelf.Bits.{and-mask}
-use Rattle·plan.specs.Scheme.{Scheme}
-use Rattle·plan.proofs.Facts.{Facts}
-use Rattle·code·specs.Coding.{around, coded, is-block, mother, one-of, pair}
-use Rattle·code·specs.Laws.{Tail-biting}
-use Rattle·code·specs.Numbers.{digit, num, bit-of, bits-of}
-use Rattle·code·proofs.Blocks.{num-low, num-more}
-use Rattle·code·proofs.Filled.{Filled, filled-more}
-use Rattle·code·proofs.Windows.{pair-num}
+use lib.Bits.{bit_and}
+use Rattle.std.proofs.lemmas.Nat.{and_mask}
+use Rattle.plan.specs.Scheme.{Scheme}
+use Rattle.plan.proofs.Facts.{Facts}
+use Rattle.code.specs.Coding.{around, coded, is_block, mother, one_of, pair}
+use Rattle.code.specs.Laws.{TailBiting}
+use Rattle.code.specs.Numbers.{digit, num, bit_of, bits_of}
+use Rattle.code.proofs.Blocks.{num_low, num_more}
+use Rattle.code.proofs.Filled.{Filled, filled_more}
+use Rattle.code.proofs.Windows.{pair_num}
 
 -- the two places of pair t in the code word
-pub mother-first : (s : Scheme) (u : ℕ → Bool) (t : ℕ) → mother s u (2 * t) ≡ coded s u t .0
+pub mother_first : (s : Scheme) (u : ℕ → Bool) (t : ℕ) → mother s u (2 * t) ≡ (coded s u t).0
 unfolding mother
-mother-first s u t =
+mother_first s u t =
     let even : (2 * t) % 2 ≡ 0 = omega arith in
     let half : 2 * t / 2 ≡ t = omega arith in
-    ap (λ r. cond (eqb r 0) (coded s u (2 * t / 2) .0) (coded s u (2 * t / 2) .1)) even ∙ ap (λ x. coded s u x .0) half
+    ap (λ r. cond (eqb r 0) (coded s u (2 * t / 2)).0 (coded s u (2 * t / 2)).1) even ∙ ap (λ x. (coded s u x).0) half
 
-pub mother-second : (s : Scheme) (u : ℕ → Bool) (t : ℕ) → mother s u (2 * t + 1) ≡ coded s u t .1
+pub mother_second : (s : Scheme) (u : ℕ → Bool) (t : ℕ) → mother s u (2 * t + 1) ≡ (coded s u t).1
 unfolding mother
-mother-second s u t =
+mother_second s u t =
     let odd : (2 * t + 1) % 2 ≡ 1 = omega arith in
     let half : (2 * t + 1) / 2 ≡ t = omega arith in
-    ap (λ r. cond (eqb r 0) (coded s u ((2 * t + 1) / 2) .0) (coded s u ((2 * t + 1) / 2) .1)) odd ∙ ap (λ x. coded s u x .1) half
+    ap (λ r. cond (eqb r 0) (coded s u ((2 * t + 1) / 2)).0 (coded s u ((2 * t + 1) / 2)).1) odd ∙ ap (λ x. (coded s u x).1) half
 
 -- two places more are filled
-pub filled-pair : {X : Type 0} (f : ℕ → X) (t : ℕ) (old new : List X) (a b : X) → Filled f (2 * t) old new → a ≡ f (2 * t) → b ≡ f (2 * t + 1) → Filled f (2 * (t + 1)) old (set (set new (2 * t) a) (2 * t + 1) b)
-filled-pair f t old new a b h p q =
+pub filled_pair : {X : Type 0} (f : ℕ → X) (t : ℕ) (old new : List X) (a b : X) → Filled f (2 * t) old new → a ≡ f (2 * t) → b ≡ f (2 * t + 1) → Filled f (2 * (t + 1)) old (set (set new (2 * t) a) (2 * t + 1) b)
+filled_pair f t old new a b h p q =
     let e : 2 * t + 1 + 1 ≡ 2 * (t + 1) = omega arith in
     subst (λ n. Filled f n old (set (set new (2 * t) a) (2 * t + 1) b)) e
-    (filled-more f (2 * t + 1) old (set new (2 * t) a) b (filled-more f (2 * t) old new a h p) q)
+    (filled_more f (2 * t + 1) old (set new (2 * t) a) b (filled_more f (2 * t) old new a h p) q)
 
-module _ (s : Scheme) (known : Facts s) (block : List ℕ) (is : is-block s block ≡ true) where
-  back : s .constraint - 1 + 1 ≡ s .constraint
-  back = omega (arith, known .constraint-low)
+module _ (s : Scheme) (known : Facts s) (block : List ℕ) (is : is_block s block ≡ true) where
+  back : s.constraint - 1 + 1 ≡ s.constraint
+  back = omega (arith, known.constraint_low)
 
   -- a state and the newest bit are the window
-  pub window-is : (t state bit x : ℕ) → state ≡ num (around s (bits-of block)) (s .constraint - 1) t → bit ≡ digit (bits-of block ((t + (s .constraint - 1)) % length block)) → x ≡ 2 * state + bit → x ≡ num (around s (bits-of block)) (s .constraint) t
-  window-is t state bit x p q r =
-      r ∙ num-more s block is (s .constraint - 1) t state bit p q ∙ ap (λ n. num (around s (bits-of block)) n t) back
+  pub window_is : (t state bit x : ℕ) → state ≡ num (around s (bits_of block)) (s.constraint - 1) t → bit ≡ digit (bits_of block ((t + (s.constraint - 1)) % length block)) → x ≡ 2 * state + bit → x ≡ num (around s (bits_of block)) s.constraint t
+  window_is t state bit x p q r =
+      r ∙ num_more s block is (s.constraint - 1) t state bit p q ∙ ap (λ n. num (around s (bits_of block)) n t) back
 
   -- the window without its oldest bit is the next state
-  pub state-next : (t x low : ℕ) → x ≡ num (around s (bits-of block)) (s .constraint) t → low ≡ 2 ^ (s .constraint - 1) - 1 → bitAnd x low ≡ num (around s (bits-of block)) (s .constraint - 1) (t + 1)
-  state-next t x low p q =
-      let f = around s (bits-of block) in
-      let m = s .constraint - 1 in
-      let whole : s .constraint ≡ suc m = omega (arith, known .constraint-low) in
-      (λ i. bitAnd (p i) (q i)) ∙ and-mask (num f (s .constraint) t) m ∙ ap (λ n. num f n t % 2 ^ m) whole ∙ num-low f m t
+  pub state_next : (t x low : ℕ) → x ≡ num (around s (bits_of block)) s.constraint t → low ≡ 2 ^ (s.constraint - 1) - 1 → bit_and x low ≡ num (around s (bits_of block)) (s.constraint - 1) (t + 1)
+  state_next t x low p q =
+      let f = around s (bits_of block) in
+      let m = s.constraint - 1 in
+      let whole : s.constraint ≡ suc m = omega (arith, known.constraint_low) in
+      (λ i. bit_and (p i) (q i)) ∙ and_mask (num f s.constraint t) m ∙ ap (λ n. num f n t % 2 ^ m) whole ∙ num_low f m t
       ∙ ap (λ n. num f m n) (sym (add-one t))
 
   -- its pair is that of window t
-  pub pair-is : (t x : ℕ) (p : Bool × Bool) → x ≡ num (around s (bits-of block)) (s .constraint) t → p ≡ pair (s .constraint) (bit-of (s .constraint) x) → p ≡ coded s (bits-of block) t
-  pair-is t x p e q =
-      q ∙ ap (λ n. pair (s .constraint) (bit-of (s .constraint) n)) e ∙ pair-num (s .constraint) (around s (bits-of block)) t (known .constraint)
+  pub pair_is : (t x : ℕ) (p : Bool × Bool) → x ≡ num (around s (bits_of block)) s.constraint t → p ≡ pair s.constraint (bit_of s.constraint x) → p ≡ coded s (bits_of block) t
+  pair_is t x p e q =
+      q ∙ ap (λ n. pair s.constraint (bit_of s.constraint n)) e ∙ pair_num s.constraint (around s (bits_of block)) t known.constraint
 
 -- rotating the block rotates the code word
-pub tail-biting : (s : Scheme) → Tail-biting s
-tail-biting s u r t =
-    let same : (i : ℕ) → u (((t + i) % s .block + r) % s .block) ≡ u ((t + r + i) % s .block) =
-    λ i. let order : t + i + r ≡ t + r + i = omega arith in ap u (mod-add-mod (t + i) (s .block) r ∙ ap (λ j. j % s .block) order) in
-    λ x. pair (s .constraint) (λ i. same i x)
+pub tail_biting : (s : Scheme) → TailBiting s
+tail_biting s u r t =
+    let same : (i : ℕ) → u (((t + i) % s.block + r) % s.block) ≡ u ((t + r + i) % s.block) =
+    λ i. let order : t + i + r ≡ t + r + i = omega arith in ap u (mod-add-mod (t + i) s.block r ∙ ap (λ j. j % s.block) order) in
+    λ x. pair s.constraint (λ i. same i x)

@@ -1,20 +1,17 @@
 -- What the calls of this crate answer: 0, or the number of the first question that is answered no.
 -- Assumes nothing.
-use mathlib.Core.Bool.{Bool, cond, not, _||_}
-use mathlib.Core.List.{List}
-use Prim.Native.Nat.{ℕ, _*_, _/_}
-use lib.Dec.{leb, ltb}
-use Rattle·plan.specs.Scheme.{Scheme, sent-length}
-use Rattle·code·specs.Coding.{is-block}
+use Rattle.std.specs.Prelude.{ℕ, ◌*◌, ◌/◌, Bool, cond, not, ◌||◌, List, nat_le, nat_lt}
+use Rattle.plan.specs.Scheme.{Scheme, sent_length}
+use Rattle.code.specs.Coding.{is_block}
 
 -- encoding asks for a block, then for room for the code word
-abbrev pub encode-answer : Scheme → List ℕ → ℕ → ℕ
-encode-answer s block room = cond (not (is-block s block)) 12 (cond (ltb room (2 * s .block)) 13 0)
+abbrev pub encode_answer : Scheme → List ℕ → ℕ → ℕ
+encode_answer s block room = cond (not (is_block s block)) 12 (cond (nat_lt room (2 * s.block)) 13 0)
 
 -- loading asks for a whole code word and for room for the array
-abbrev pub load-answer : Scheme → ℕ → ℕ → ℕ
-load-answer s given room = cond (ltb given (2 * s .block) || ltb room (sent-length s)) 13 0
+abbrev pub load_answer : Scheme → ℕ → ℕ → ℕ
+load_answer s given room = cond (nat_lt given (2 * s.block) || nat_lt room (sent_length s)) 13 0
 
 -- fetching a symbol asks for a whole array, then for a place below the number of symbols
-abbrev pub fetch-answer : Scheme → ℕ → ℕ → ℕ
-fetch-answer s given place = cond (ltb given (sent-length s)) 13 (cond (leb (sent-length s / s .bits) place) 14 0)
+abbrev pub fetch_answer : Scheme → ℕ → ℕ → ℕ
+fetch_answer s given place = cond (nat_lt given (sent_length s)) 13 (cond (nat_le (sent_length s / s.bits) place) 14 0)

@@ -1,33 +1,27 @@
 // The tail-biting encoder.
-ghost use mathlib.Core.Bool.{true, cond};
-ghost use mathlib.Core.List.{_++_};
-ghost use mathlib.Core.Path.{_≡_};
-ghost use Prim.Native.Nat.{_+_, _-_, _*_, _%_, _^_, _<_, _≤_};
-ghost use lib.ListN.{length, drop};
-ghost use Rattle·code·specs.Answers.{encode-answer};
-ghost use Rattle·code·specs.Coding.{word as code-word, around, is-block};
-ghost use Rattle·code·specs.Laws.{Tail-biting};
-ghost use Rattle·code·specs.Numbers.{bits-of, digit, num};
-ghost use Rattle·plan.specs.Faults.{chain-number, outcome};
-ghost use Rattle·plan.specs.Plans.{plan-scheme};
-ghost use Rattle·plan.specs.Questions.{all-below};
-ghost use Rattle·std.specs.Results.{isOk};
+ghost use Rattle.std.specs.Prelude.{◌≡◌, ◌+◌, ◌-◌, ◌*◌, ◌%◌, ◌^◌, ◌<◌, ◌≤◌, true, ◌++◌, length, drop, is_ok, if◌then◌else◌};
+ghost use Rattle.code.specs.Answers.{encode_answer};
+ghost use Rattle.code.specs.Coding.{word as code_word, around, is_block};
+ghost use Rattle.code.specs.Laws.{TailBiting};
+ghost use Rattle.code.specs.Numbers.{bits_of, digit, num};
+ghost use Rattle.plan.specs.Faults.{chain_number, outcome};
+ghost use Rattle.plan.specs.Plans.{plan_scheme};
+ghost use Rattle.plan.specs.Questions.{all_below};
+
 use crate::generators::parity;
-use plan::ChainFault;
-use plan::Plan;
-use plan::all_below;
+use plan::{ChainFault, Plan, all_below};
 
 // Whether these bytes are a block of the plan: as many as it says, each 0 or 1.
 pub fn is_block(plan: &Plan, block: &[u8]) -> bool
-    ensures { λ r. ⌜ r ≡ is-block (plan-scheme (now (plan .entry))) (now (block .entry)) ⌝ }
+    ensures { result ≡ is_block (plan_scheme plan.now) block.now }
 {
     block.len() == plan.parts().block_length && all_below(block, 2)
 }
 
 // The bit at an index that may pass the block's end once.
 fn bit_around(block: &[u8], index: usize) -> u16
-    requires { ⌜ index < 2 * length (now block) ⌝ ∗ ⌜ all-below 2 (now block) ≡ true ⌝ }
-    ensures { λ r. ⌜ r ≡ digit (bits-of (now (block .entry)) (index % length (now (block .entry)))) ⌝ }
+    requires { (index < 2 * length block.now) × (all_below 2 block.now ≡ true) }
+    ensures { result ≡ digit (bits_of block.now (index % length block.now)) }
 {
     if index < block.len() {
         u16::from(block[index])
@@ -38,15 +32,15 @@ fn bit_around(block: &[u8], index: usize) -> u16
 
 // The window, or the longer state, that one more bit at the lowest place gives.
 fn shift_in(state: u16, bit: u16) -> u16
-    requires { ⌜ state < 256 ⌝ ∗ ⌜ bit ≤ 1 ⌝ }
-    ensures { λ r. ⌜ r ≡ 2 * state + bit ⌝ }
+    requires { (state < 256) × (bit ≤ 1) }
+    ensures { result ≡ 2 * state + bit }
 {
     2 * state + bit
 }
 
 // A one at each bit of a state.
 fn state_bits(plan: &Plan) -> u16
-    ensures { λ r. ⌜ r ≡ 2 ^ (plan-scheme (now (plan .entry)) .constraint - 1) - 1 ⌝ }
+    ensures { result ≡ 2 ^ ((plan_scheme plan.now).constraint - 1) - 1 }
 {
     if plan.parts().constraint == 7 {
         63
@@ -57,8 +51,8 @@ fn state_bits(plan: &Plan) -> u16
 
 // The bits of the block that come before the newest one of the first window.
 fn first_state(plan: &Plan, block: &[u8]) -> u16
-    requires { ⌜ is-block (plan-scheme (now plan)) (now block) ≡ true ⌝ }
-    ensures { λ r. ⌜ r ≡ num (around (plan-scheme (now (plan .entry))) (bits-of (now (block .entry)))) (plan-scheme (now (plan .entry)) .constraint - 1) 0 ⌝ }
+    requires { is_block (plan_scheme plan.now) block.now ≡ true }
+    ensures { result ≡ num (around (plan_scheme plan.now) (bits_of block.now)) ((plan_scheme plan.now).constraint - 1) 0 }
 {
     let mut state = 0;
     for i in 0..plan.parts().constraint - 1 {
@@ -69,9 +63,9 @@ fn first_state(plan: &Plan, block: &[u8]) -> u16
 
 // The code word of a block, into the first places of `word`.
 pub fn encode(plan: &Plan, block: &[u8], word: &mut [bool]) -> Result<(), ChainFault>
-    ensures answer { λ r. ⌜ outcome chain-number r ≡ encode-answer (plan-scheme (now (plan .entry))) (now (block .entry)) (length (now (word .entry))) ⌝ }
-    ensures after { λ r. ⌜ now (word .exit) ≡ cond (isOk r) (code-word (plan-scheme (now (plan .entry))) (bits-of (now (block .entry))) ++ drop (2 * plan-scheme (now (plan .entry)) .block) (now (word .entry))) (now (word .entry)) ⌝ }
-    ensures rotates { λ _. ⌜ Tail-biting (plan-scheme (now (plan .entry))) ⌝ }
+    ensures answer { outcome chain_number result ≡ encode_answer (plan_scheme plan.now) block.now (length word.old) }
+    ensures after { word.new ≡ (if is_ok result then code_word (plan_scheme plan.now) (bits_of block.now) ++ drop (2 * (plan_scheme plan.now).block) word.old else word.old) }
+    ensures rotates { TailBiting (plan_scheme plan.now) }
 {
     if !is_block(plan, block) {
         return Err(ChainFault::Block);
@@ -85,8 +79,8 @@ pub fn encode(plan: &Plan, block: &[u8], word: &mut [bool]) -> Result<(), ChainF
 
 // The pairs of the windows, one after the other.
 fn write_pairs(plan: &Plan, block: &[u8], word: &mut [bool])
-    requires { ⌜ is-block (plan-scheme (now plan)) (now block) ≡ true ⌝ ∗ ⌜ 2 * plan-scheme (now plan) .block ≤ length (now word) ⌝ }
-    ensures { λ _. ⌜ now (word .exit) ≡ code-word (plan-scheme (now (plan .entry))) (bits-of (now (block .entry))) ++ drop (2 * plan-scheme (now (plan .entry)) .block) (now (word .entry)) ⌝ }
+    requires { (is_block (plan_scheme plan.now) block.now ≡ true) × (2 * (plan_scheme plan.now).block ≤ length word.old) }
+    ensures { word.new ≡ code_word (plan_scheme plan.now) (bits_of block.now) ++ drop (2 * (plan_scheme plan.now).block) word.old }
 {
     let memory = plan.parts().constraint - 1;
     let low = state_bits(plan);

@@ -1,26 +1,19 @@
 // The interleaver: where each sent bit is loaded.
-ghost use mathlib.Core.Bool.{false, cond};
-ghost use mathlib.Core.List.{_++_};
-ghost use mathlib.Core.Path.{_≡_};
-ghost use Prim.Native.Nat.{_+_, _*_, _/_, _<_, _≤_};
-ghost use lib.Dec.{ltb};
-ghost use lib.ListN.{length, drop, replicate};
-ghost use Rattle·code·specs.Answers.{load-answer};
-ghost use Rattle·code·specs.Laws.{Permutes};
-ghost use Rattle·code·specs.Numbers.{read};
-ghost use Rattle·code·specs.Sending.{interleaved, loads, location as location-of};
-ghost use Rattle·plan.specs.Faults.{chain-number, outcome};
-ghost use Rattle·plan.specs.Plans.{plan-scheme};
-ghost use Rattle·plan.specs.Scheme.{sent-length};
-ghost use Rattle·std.specs.Results.{isOk};
-ghost use Rattle·std.specs.declared.option.Option.the-variants.{Some, None};
-use plan::ChainFault;
-use plan::Plan;
+ghost use Rattle.std.specs.Prelude.{◌≡◌, ◌+◌, ◌*◌, ◌/◌, ◌<◌, ◌≤◌, false, ◌++◌, length, drop, replicate, is_ok, if◌then◌else◌, Some, None, nat_lt};
+ghost use Rattle.code.specs.Answers.{load_answer};
+ghost use Rattle.code.specs.Laws.{Permutes};
+ghost use Rattle.code.specs.Numbers.{read};
+ghost use Rattle.code.specs.Sending.{interleaved, loads, location as location-of};
+ghost use Rattle.plan.specs.Faults.{chain_number, outcome};
+ghost use Rattle.plan.specs.Plans.{plan_scheme};
+ghost use Rattle.plan.specs.Scheme.{sent_length};
+
+use plan::{ChainFault, Plan};
 
 // The location of sent bit n, or none where no such bit is sent.
 pub fn location(plan: &Plan, n: usize) -> Option<usize>
-    ensures value { λ r. ⌜ r ≡ cond (ltb n (sent-length (plan-scheme (now (plan .entry))))) (Some (location-of (plan-scheme (now (plan .entry))) n)) None ⌝ }
-    ensures permutes { λ _. ⌜ Permutes (plan-scheme (now (plan .entry))) ⌝ }
+    ensures value { result ≡ (if nat_lt n (sent_length (plan_scheme plan.now)) then Some (location-of (plan_scheme plan.now) n) else None) }
+    ensures permutes { Permutes (plan_scheme plan.now) }
 {
     if n < plan.sent_length() {
         Some(location_below(plan, n))
@@ -30,17 +23,17 @@ pub fn location(plan: &Plan, n: usize) -> Option<usize>
 }
 
 fn location_below(plan: &Plan, n: usize) -> usize
-    requires { ⌜ n < sent-length (plan-scheme (now plan)) ⌝ }
-    ensures value { λ r. ⌜ r ≡ location-of (plan-scheme (now (plan .entry))) n ⌝ }
-    ensures bound { λ r. ⌜ r < sent-length (plan-scheme (now (plan .entry))) ⌝ }
+    requires { n < sent_length (plan_scheme plan.now) }
+    ensures value { result ≡ location-of (plan_scheme plan.now) n }
+    ensures bound { result < sent_length (plan_scheme plan.now) }
 {
     n * plan.parts().increment % plan.sent_length()
 }
 
 // Loads every sent bit of a code word, into the first places of `array`.
 pub fn load(plan: &Plan, word: &[bool], array: &mut [bool]) -> Result<(), ChainFault>
-    ensures answer { λ r. ⌜ outcome chain-number r ≡ load-answer (plan-scheme (now (plan .entry))) (length (now (word .entry))) (length (now (array .entry))) ⌝ }
-    ensures after { λ r. ⌜ now (array .exit) ≡ cond (isOk r) (interleaved (plan-scheme (now (plan .entry))) (read (now (word .entry))) ++ drop (sent-length (plan-scheme (now (plan .entry)))) (now (array .entry))) (now (array .entry)) ⌝ }
+    ensures answer { outcome chain_number result ≡ load_answer (plan_scheme plan.now) (length word.now) (length array.old) }
+    ensures after { array.new ≡ (if is_ok result then interleaved (plan_scheme plan.now) (read word.now) ++ drop (sent_length (plan_scheme plan.now)) array.old else array.old) }
 {
     if !are_long(plan, word.len(), array.len()) {
         return Err(ChainFault::TooShort);
@@ -51,15 +44,15 @@ pub fn load(plan: &Plan, word: &[bool], array: &mut [bool]) -> Result<(), ChainF
 }
 
 fn are_long(plan: &Plan, word: usize, array: usize) -> bool
-    ensures { λ r. ⌜ load-answer (plan-scheme (now (plan .entry))) word array ≡ cond r 0 13 ⌝ }
+    ensures { load_answer (plan_scheme plan.now) word array ≡ (if result then 0 else 13) }
 {
     word >= 2 * plan.parts().block_length && array >= plan.sent_length()
 }
 
 // Sets the first places to 0 bits.
 fn clear(array: &mut [bool], count: usize)
-    requires { ⌜ count ≤ length (now array) ⌝ }
-    ensures { λ _. ⌜ now (array .exit) ≡ replicate count false ++ drop count (now (array .entry)) ⌝ }
+    requires { count ≤ length array.old }
+    ensures { array.new ≡ replicate count false ++ drop count array.old }
 {
     for i in 0..count {
         array[i] = false;
@@ -68,8 +61,8 @@ fn clear(array: &mut [bool], count: usize)
 
 // One run of the send list after the other.
 fn load_runs(plan: &Plan, word: &[bool], array: &mut [bool])
-    requires { ⌜ 2 * plan-scheme (now plan) .block ≤ length (now word) ⌝ ∗ ⌜ sent-length (plan-scheme (now plan)) ≤ length (now array) ⌝ }
-    ensures { λ _. ⌜ now (array .exit) ≡ loads (plan-scheme (now (plan .entry))) (read (now (word .entry))) (now (array .entry)) 0 (sent-length (plan-scheme (now (plan .entry)))) ⌝ }
+    requires { (2 * (plan_scheme plan.now).block ≤ length word.now) × (sent_length (plan_scheme plan.now) ≤ length array.old) }
+    ensures { array.new ≡ loads (plan_scheme plan.now) (read word.now) array.old 0 (sent_length (plan_scheme plan.now)) }
 {
     let parts = plan.parts();
     for run in 0..parts.block_length / parts.period {
@@ -79,33 +72,31 @@ fn load_runs(plan: &Plan, word: &[bool], array: &mut [bool])
 
 // One run of the send list.
 fn load_run(plan: &Plan, word: &[bool], array: &mut [bool], run: usize)
-    requires { ⌜ 2 * plan-scheme (now plan) .block ≤ length (now word) ⌝ ∗ ⌜ sent-length (plan-scheme (now plan)) ≤ length (now array) ⌝ ∗ ⌜ run < plan-scheme (now plan) .block / plan-scheme (now plan) .period ⌝ }
-    ensures { λ _. ⌜ now (array .exit) ≡ loads (plan-scheme (now (plan .entry))) (read (now (word .entry))) (now (array .entry)) (run * length (plan-scheme (now (plan .entry)) .entries)) (length (plan-scheme (now (plan .entry)) .entries)) ⌝ }
+    requires { (2 * (plan_scheme plan.now).block ≤ length word.now) × ((sent_length (plan_scheme plan.now) ≤ length array.old) × (run < (plan_scheme plan.now).block / (plan_scheme plan.now).period)) }
+    ensures { array.new ≡ loads (plan_scheme plan.now) (read word.now) array.old (run * length (plan_scheme plan.now).entries) (length (plan_scheme plan.now).entries) }
 {
     let list = plan.parts().send_list.as_slice();
     for (i, entry) in list.iter().enumerate() {
         array[location_below(plan, sent_number(plan, run, i))] = word[word_place(
-            plan,
-            run,
-            *entry,
+            plan, run, *entry,
         )];
     }
 }
 
 // The number of the sent bit that entry i of this run sends.
 fn sent_number(plan: &Plan, run: usize, i: usize) -> usize
-    requires { ⌜ run < plan-scheme (now plan) .block / plan-scheme (now plan) .period ⌝ ∗ ⌜ i < length (plan-scheme (now plan) .entries) ⌝ }
-    ensures value { λ r. ⌜ r ≡ run * length (plan-scheme (now (plan .entry)) .entries) + i ⌝ }
-    ensures bound { λ r. ⌜ r < sent-length (plan-scheme (now (plan .entry))) ⌝ }
+    requires { (run < (plan_scheme plan.now).block / (plan_scheme plan.now).period) × (i < length (plan_scheme plan.now).entries) }
+    ensures value { result ≡ run * length (plan_scheme plan.now).entries + i }
+    ensures bound { result < sent_length (plan_scheme plan.now) }
 {
     run * plan.parts().send_list.len() + i
 }
 
 // The place in the code word that this entry names in this run.
 fn word_place(plan: &Plan, run: usize, entry: u8) -> usize
-    requires { ⌜ run < plan-scheme (now plan) .block / plan-scheme (now plan) .period ⌝ ∗ ⌜ entry < 2 * plan-scheme (now plan) .period ⌝ }
-    ensures value { λ r. ⌜ r ≡ 2 * plan-scheme (now (plan .entry)) .period * run + entry ⌝ }
-    ensures bound { λ r. ⌜ r < 2 * plan-scheme (now (plan .entry)) .block ⌝ }
+    requires { (run < (plan_scheme plan.now).block / (plan_scheme plan.now).period) × (entry < 2 * (plan_scheme plan.now).period) }
+    ensures value { result ≡ 2 * (plan_scheme plan.now).period * run + entry }
+    ensures bound { result < 2 * (plan_scheme plan.now).block }
 {
     2 * plan.parts().period * run + usize::from(entry)
 }

@@ -1,23 +1,19 @@
 // From locations to symbols, and back to bits.
-ghost use mathlib.Core.Path.{_≡_};
-ghost use Prim.Native.Nat.{_+_, _*_, _/_, _^_, _<_, _≤_};
-ghost use lib.Dec.{ltb};
-ghost use lib.ListN.{length, getD};
-ghost use Rattle·code·specs.Answers.{fetch-answer};
-ghost use Rattle·code·specs.Laws.{Inverts};
-ghost use Rattle·code·specs.Mapping.{phases as phases-of, place-from, symbol-of, number-of, symbol-at};
-ghost use Rattle·code·specs.Numbers.{digit, num, read};
-ghost use Rattle·plan.specs.Faults.{chain-number, outcome};
-ghost use Rattle·plan.specs.Plans.{plan-scheme};
-ghost use Rattle·plan.specs.Scheme.{sent-length};
-ghost use Rattle·std.specs.Vec.{made};
-use plan::ChainFault;
-use plan::Plan;
+ghost use Rattle.std.specs.Prelude.{◌≡◌, ◌+◌, ◌*◌, ◌/◌, ◌^◌, ◌<◌, ◌≤◌, length, IfOk, nat_lt, slice_index};
+ghost use Rattle.code.specs.Answers.{fetch_answer};
+ghost use Rattle.code.specs.Laws.{Inverts};
+ghost use Rattle.code.specs.Mapping.{phases as phases-of, place_from, symbol_of, number_of, symbol_at};
+ghost use Rattle.code.specs.Numbers.{digit, num, read};
+ghost use Rattle.plan.specs.Faults.{chain_number, outcome};
+ghost use Rattle.plan.specs.Plans.{plan_scheme};
+ghost use Rattle.plan.specs.Scheme.{sent_length};
+
+use plan::{ChainFault, Plan};
 
 // The symbols of 1, 2 or 3 bits, in the order of the numbers that the bits write.
 fn phases(bits: usize) -> &'static [u8]
-    ensures value { λ r. ⌜ now r ≡ phases-of bits ⌝ }
-    ensures few { λ r. ⌜ length (now r) ≤ 8 ⌝ }
+    ensures value { result.now ≡ phases-of bits }
+    ensures few { length result.now ≤ 8 }
 {
     match bits {
         1 => &[0, 4],
@@ -28,7 +24,7 @@ fn phases(bits: usize) -> &'static [u8]
 
 // The symbol of bits that write this number.
 pub fn symbol_for(plan: &Plan, number: u8) -> u8
-    ensures { λ r. ⌜ r ≡ symbol-of (plan-scheme (now (plan .entry)) .bits) number ⌝ }
+    ensures { result ≡ symbol_of (plan_scheme plan.now).bits number }
 {
     let bits = plan.parts().symbol_bits;
     if bits > 3 {
@@ -39,7 +35,7 @@ pub fn symbol_for(plan: &Plan, number: u8) -> u8
 
 // What stands at a place of the list, and 0 past its end.
 fn phase_at(list: &[u8], place: u8) -> u8
-    ensures { λ r. ⌜ r ≡ getD (now (list .entry)) place 0 ⌝ }
+    ensures { result ≡ slice_index list.now place }
 {
     let place = usize::from(place);
     if place < list.len() { list[place] } else { 0 }
@@ -47,8 +43,8 @@ fn phase_at(list: &[u8], place: u8) -> u8
 
 // The number that a symbol's bits write, or none where no bits give this symbol.
 pub fn number_for(plan: &Plan, symbol: u8) -> Option<u8>
-    ensures value { λ r. ⌜ r ≡ number-of (plan-scheme (now (plan .entry)) .bits) symbol ⌝ }
-    ensures inverts { λ _. ⌜ Inverts (plan-scheme (now (plan .entry)) .bits) ⌝ }
+    ensures value { result ≡ number_of (plan_scheme plan.now).bits symbol }
+    ensures inverts { Inverts (plan_scheme plan.now).bits }
 {
     let bits = plan.parts().symbol_bits;
     if bits <= 3 {
@@ -62,15 +58,15 @@ pub fn number_for(plan: &Plan, symbol: u8) -> Option<u8>
 
 // Whether so many bits can write this number.
 pub fn has_bits(number: u8, bits: usize) -> bool
-    ensures { λ r. ⌜ r ≡ ltb number (2 ^ bits) ⌝ }
+    ensures { result ≡ nat_lt number (2 ^ bits) }
 {
     bits >= 8 || usize::from(number) < 1 << bits
 }
 
 // The first place at which the symbol stands.
 fn place_in(list: &[u8], symbol: u8) -> Option<u8>
-    requires { ⌜ length (now list) ≤ 8 ⌝ }
-    ensures { λ r. ⌜ r ≡ place-from symbol 0 (now (list .entry)) ⌝ }
+    requires { length list.now ≤ 8 }
+    ensures { result ≡ place_from symbol 0 list.now }
 {
     for (i, phase) in list.iter().enumerate() {
         if *phase == symbol {
@@ -82,8 +78,8 @@ fn place_in(list: &[u8], symbol: u8) -> Option<u8>
 
 // The symbol that takes the locations of this place, the first fetched on the left.
 pub fn symbol_at(plan: &Plan, array: &[bool], place: usize) -> Result<u8, ChainFault>
-    ensures answer { λ r. ⌜ outcome chain-number r ≡ fetch-answer (plan-scheme (now (plan .entry))) (length (now (array .entry))) place ⌝ }
-    ensures made { λ r. ⌜ made r (λ y. y ≡ symbol-at (plan-scheme (now (plan .entry))) (now (array .entry)) place) ⌝ }
+    ensures answer { outcome chain_number result ≡ fetch_answer (plan_scheme plan.now) (length array.now) place }
+    ensures made { IfOk result (λ y. y ≡ symbol_at (plan_scheme plan.now) array.now place) }
 {
     if array.len() < plan.sent_length() {
         return Err(ChainFault::TooShort);
@@ -96,8 +92,8 @@ pub fn symbol_at(plan: &Plan, array: &[bool], place: usize) -> Result<u8, ChainF
 
 // The number that the bits of a symbol's locations write.
 fn group(plan: &Plan, array: &[bool], place: usize) -> u8
-    requires { ⌜ sent-length (plan-scheme (now plan)) ≤ length (now array) ⌝ ∗ ⌜ place < sent-length (plan-scheme (now plan)) / plan-scheme (now plan) .bits ⌝ }
-    ensures { λ r. ⌜ r ≡ num (read (now (array .entry))) (plan-scheme (now (plan .entry)) .bits) (place * plan-scheme (now (plan .entry)) .bits) ⌝ }
+    requires { (sent_length (plan_scheme plan.now) ≤ length array.now) × (place < sent_length (plan_scheme plan.now) / (plan_scheme plan.now).bits) }
+    ensures { result ≡ num (read array.now) (plan_scheme plan.now).bits (place * (plan_scheme plan.now).bits) }
 {
     let bits = plan.parts().symbol_bits;
     let first = place * bits;
@@ -110,8 +106,8 @@ fn group(plan: &Plan, array: &[bool], place: usize) -> u8
 
 // The number with one more bit at its lowest place.
 fn append(number: u8, bit: bool) -> u8
-    requires { ⌜ number < 128 ⌝ }
-    ensures { λ r. ⌜ r ≡ 2 * number + digit bit ⌝ }
+    requires { number < 128 }
+    ensures { result ≡ 2 * number + digit bit }
 {
     2 * number + u8::from(bit)
 }

@@ -1,13 +1,9 @@
 // The calls that a receiver gets of one block: its symbols in shuffled order, some twice, some never, a few blanked.
 use crate::trouble::Trouble;
-use crate::trouble::TroubleFromAlloc;
-use crate::trouble::TroubleFromPhases;
-use crate::trouble::TroubleFromRefused;
 use channel::Air;
 use plan::Plan;
 use replay::Call;
-use std::alloc::AllocError;
-use std::alloc::Global;
+use std::alloc::{AllocError, Global};
 
 // What is on the air: the plan, the scrambler's values of a frame, and the on-air indices.
 #[derive(Clone, Copy)]

@@ -1,10 +1,7 @@
 // The dots of a curve: what is counted at each ratio.
 use crate::choice::Run;
-use crate::trial::Trial;
-use crate::trial::run_trial;
+use crate::trial::{Trial, run_trial};
 use crate::trouble::Trouble;
-use crate::trouble::TroubleFromIo;
-use crate::trouble::TroubleFromRefused;
 use channel::Air;
 use errors::Count;
 use std::alloc::Global;
@@ -45,12 +42,12 @@ impl Dot {
 }
 
 // A dot for each ratio; how far it has come goes to standard error.
-pub(crate) fn dots_of(rt: &LibcRuntime, run: Run) -> Result<Vec<Dot>, Trouble> {
+pub(crate) fn dots_of(rt: &HostRuntime, run: Run) -> Result<Vec<Dot>, Trouble> {
     let mut dots = Vec::new(rt.alloc());
     for decibels in run.from..=run.to {
         let dot = dot_at(rt.alloc(), run, decibels)?;
         let errors = dot.count.bit_errors;
-        eprintln!(rt, "{decibels} dB: {errors} bit errors")?;
+        eprintln!(rt; "{decibels} dB: {errors} bit errors")?;
         dots.push(dot)?;
     }
     Ok(dots)

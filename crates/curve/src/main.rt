@@ -11,30 +11,21 @@ mod svg;
 mod trial;
 mod trouble;
 
-use crate::request::Request;
-use crate::request::request_of;
-use crate::show::show_curve;
-use crate::show::show_rows;
-use crate::show::show_sent;
-use crate::show::show_time;
+use crate::request::{Request, request_of};
+use crate::show::{show_curve, show_rows, show_sent, show_time};
 use crate::trouble::Trouble;
-use crate::trouble::TroubleDisplay;
-use crate::trouble::TroubleFromAlloc;
-use crate::trouble::TroubleFromChain;
-use crate::trouble::TroubleFromIo;
-use crate::trouble::TroubleFromSlip;
 use std::env;
 
-fn main(rt: LibcRuntime) -> Result<(), Trouble> {
+fn main(rt: HostRuntime) -> Result<(), Trouble> {
     let done = run(&rt);
     if let Err(trouble) = &done {
-        eprintln!(rt, "curve: {trouble}")?;
+        eprintln!(rt; "curve: {trouble}")?;
     }
     done
 }
 
 // Does what the arguments ask for.
-fn run(rt: &LibcRuntime) -> Result<(), Trouble> {
+fn run(rt: &HostRuntime) -> Result<(), Trouble> {
     let words = env::args(rt)?.skip(1).collect::<Vec<String>>(rt.alloc())?;
     match request_of(words.as_slice())? {
         Request::Rows => Ok(show_rows(rt)?),

@@ -7,18 +7,15 @@ use std::io;
 // The rates at which the plot has a line, and under them a line for less.
 static LEVELS: [f64; 10] = [0.5, 0.2, 0.1, 0.05, 0.02, 0.01, 0.005, 0.002, 0.001, 0.0005];
 
-pub(crate) fn show_dots(rt: &LibcRuntime, dots: &[Dot]) -> io::Result<()> {
-    println!(
-        rt,
-        "   dB  blocks      bits  bit errors  block errors     rate         score"
-    )?;
+pub(crate) fn show_dots(rt: &HostRuntime, dots: &[Dot]) -> io::Result<()> {
+    println!(rt; "   dB  blocks      bits  bit errors  block errors     rate         score")?;
     for dot in dots {
         show_dot(rt, dot)?;
     }
     Ok(())
 }
 
-fn show_dot(rt: &LibcRuntime, dot: &Dot) -> io::Result<()> {
+fn show_dot(rt: &HostRuntime, dot: &Dot) -> io::Result<()> {
     let Dot {
         decibels,
         count,
@@ -31,36 +28,35 @@ fn show_dot(rt: &LibcRuntime, dot: &Dot) -> io::Result<()> {
         block_errors,
     } = count;
     let rate = dot.rate();
-    println!(
-        rt,
+    println!(rt;
         "{decibels:>5}{blocks:>8}{bits:>10}{bit_errors:>12}{block_errors:>14}{rate:>9.5}{score:>14}"
     )
 }
 
 // A line for each level, a column for each ratio.
-pub(crate) fn show_plot(rt: &LibcRuntime, choice: Choice, dots: &[Dot]) -> io::Result<()> {
-    println!(rt, "bit error rate")?;
+pub(crate) fn show_plot(rt: &HostRuntime, choice: Choice, dots: &[Dot]) -> io::Result<()> {
+    println!(rt; "bit error rate")?;
     for (i, level) in LEVELS.iter().enumerate() {
-        print!(rt, "{level:>7.4} |")?;
+        print!(rt; "{level:>7.4} |")?;
         show_level(rt, dots, i)?;
     }
-    print!(rt, "   less |")?;
+    print!(rt; "   less |")?;
     show_level(rt, dots, LEVELS.len())?;
     show_scale(rt, dots)?;
     show_caption(rt, choice)
 }
 
 // A star for each dot that is on this level.
-fn show_level(rt: &LibcRuntime, dots: &[Dot], level: usize) -> io::Result<()> {
+fn show_level(rt: &HostRuntime, dots: &[Dot], level: usize) -> io::Result<()> {
     for dot in dots {
         let mark = if level_of(dot.rate()) == level {
             '*'
         } else {
             ' '
         };
-        print!(rt, "{mark:>5}")?;
+        print!(rt; "{mark:>5}")?;
     }
-    println!(rt, "")
+    println!(rt; "")
 }
 
 // The first level that the rate reaches.
@@ -74,22 +70,21 @@ fn level_of(rate: f64) -> usize {
     above
 }
 
-fn show_scale(rt: &LibcRuntime, dots: &[Dot]) -> io::Result<()> {
-    print!(rt, "     dB ")?;
+fn show_scale(rt: &HostRuntime, dots: &[Dot]) -> io::Result<()> {
+    print!(rt; "     dB ")?;
     for dot in dots {
         let decibels = dot.decibels;
-        print!(rt, "{decibels:>5}")?;
+        print!(rt; "{decibels:>5}")?;
     }
-    println!(rt, "")
+    println!(rt; "")
 }
 
-fn show_caption(rt: &LibcRuntime, choice: Choice) -> io::Result<()> {
+fn show_caption(rt: &HostRuntime, choice: Choice) -> io::Result<()> {
     let bandwidth = choice.row.bandwidth;
     let waveform = choice.row.waveform;
     let interleaver = choice.row.interleaver;
     let constraint = choice.constraint;
-    println!(
-        rt,
+    println!(rt;
         "{bandwidth} kHz, waveform {waveform}, interleaver {interleaver}, constraint length {constraint}: best possible decoding"
     )
 }

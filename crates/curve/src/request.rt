@@ -1,8 +1,7 @@
 // What the arguments ask for.
-ghost use Prim.Native.Nat.{_≤_};
-ghost use lib.ListN.{length};
-use crate::choice::Choice;
-use crate::choice::Run;
+ghost use Rattle.std.specs.Prelude.{◌≤◌, length};
+
+use crate::choice::{Choice, Run};
 use crate::trouble::Slip;
 use rows::Row;
 
@@ -56,7 +55,7 @@ fn number(word: &String, name: &'static str) -> Result<usize, Slip> {
 
 // How many arguments stand before the options.
 fn numbers_in_front(words: &[String]) -> usize
-    ensures { λ r. ⌜ r ≤ length (now (words .entry)) ⌝ }
+    ensures { result ≤ length words.now }
 {
     let mut count = 0usize;
     for word in words {

@@ -1,12 +1,8 @@
 // A drawn block, and what is sent for it.
 use channel::Generator;
-use plan::ChainFault;
-use plan::ChainFromAlloc;
-use plan::Plan;
+use plan::{ChainFault, Plan};
 use scrambler::Register;
-use scrambler::RegisterScrambler;
-use sender::Sender;
-use sender::needed_width;
+use sender::{Sender, needed_width};
 use std::alloc::Global;
 
 #[derive(Drop)]

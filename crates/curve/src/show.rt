@@ -1,19 +1,13 @@
 // What a person reads.
 use crate::checksum::crc32;
-use crate::choice::Choice;
-use crate::choice::Run;
+use crate::choice::{Choice, Run};
 use crate::counting::dots_of;
-use crate::plot::show_dots;
-use crate::plot::show_plot;
-use crate::sent::Sent;
-use crate::sent::drawn_and_sent;
+use crate::plot::{show_dots, show_plot};
+use crate::sent::{Sent, drawn_and_sent};
 use crate::svg::show_svg;
 use crate::trouble::Trouble;
-use crate::trouble::TroubleFromChain;
-use crate::trouble::TroubleFromIo;
 use channel::Generator;
 use plan::Plan;
-use rows::RateDisplay;
 use rows_text::print_bands;
 use std::io;
 use std::time::Instant;
@@ -28,16 +22,15 @@ const LINE: usize = 68;
 const SHOWN: usize = 272;
 
 // The standard's table, with a line that says what its numbers are.
-pub(crate) fn show_rows(rt: &LibcRuntime) -> io::Result<()> {
-    println!(
-        rt,
+pub(crate) fn show_rows(rt: &HostRuntime) -> io::Result<()> {
+    println!(rt;
         "waveform, rate, bits of a symbol, symbols of a frame; for each interleaver: frames, bits sent, bits of a block, increment"
     )?;
     print_bands(rt)
 }
 
 // Counts the dots of a run, and shows them as lines and as a plot, or as SVG alone.
-pub(crate) fn show_curve(rt: &LibcRuntime, run: Run) -> Result<(), Trouble> {
+pub(crate) fn show_curve(rt: &HostRuntime, run: Run) -> Result<(), Trouble> {
     let dots = dots_of(rt, run)?;
     if run.svg {
         return Ok(show_svg(rt, run.choice, dots.as_slice())?);
@@ -50,7 +43,7 @@ pub(crate) fn show_curve(rt: &LibcRuntime, run: Run) -> Result<(), Trouble> {
 }
 
 // Draws a block, sends it, and shows the row, the block and the first frame.
-pub(crate) fn show_sent(rt: &LibcRuntime, choice: Choice) -> Result<(), Trouble> {
+pub(crate) fn show_sent(rt: &HostRuntime, choice: Choice) -> Result<(), Trouble> {
     let plan = choice.row.plan(rt.alloc(), choice.constraint)?;
     show_choice(rt, choice)?;
     show_plan(rt, &plan)?;
@@ -61,7 +54,7 @@ pub(crate) fn show_sent(rt: &LibcRuntime, choice: Choice) -> Result<(), Trouble>
 }
 
 // The same of the longest row, without the digits; how long it took goes to standard error.
-pub(crate) fn show_time(rt: &LibcRuntime) -> Result<(), Trouble> {
+pub(crate) fn show_time(rt: &HostRuntime) -> Result<(), Trouble> {
     let choice = Choice::longest();
     let plan = choice.row.plan(rt.alloc(), choice.constraint)?;
     show_choice(rt, choice)?;
@@ -69,7 +62,7 @@ pub(crate) fn show_time(rt: &LibcRuntime) -> Result<(), Trouble> {
     let start = Instant::now(rt)?;
     let sent = drawn_and_sent(rt.alloc(), &plan, &mut Generator::new(SEED))?;
     let seconds = start.elapsed(rt)?.as_secs_f64();
-    eprintln!(rt, "drawn and sent in {seconds:.3} s")?;
+    eprintln!(rt; "drawn and sent in {seconds:.3} s")?;
     Ok(show_checksum(rt, sent.indices.as_slice())?)
 }
 
@@ -82,14 +75,13 @@ pub(crate) fn interleaver_name(interleaver: usize) -> &'static str {
     }
 }
 
-fn show_choice(rt: &LibcRuntime, choice: Choice) -> io::Result<()> {
+fn show_choice(rt: &HostRuntime, choice: Choice) -> io::Result<()> {
     let bandwidth = choice.row.bandwidth;
     let waveform = choice.row.waveform;
     let interleaver = choice.row.interleaver;
     let name = interleaver_name(interleaver);
     let constraint = choice.constraint;
-    println!(
-        rt,
+    println!(rt;
         "{bandwidth} kHz, waveform {waveform}, interleaver {interleaver} ({name}), constraint length {constraint}"
     )?;
     let Some(entry) = choice.row.entry() else {
@@ -97,34 +89,33 @@ fn show_choice(rt: &LibcRuntime, choice: Choice) -> io::Result<()> {
     };
     let rate = entry.rate;
     let frames = entry.frames;
-    println!(rt, "rate {rate}, {frames} frames to a block")
+    println!(rt; "rate {rate}, {frames} frames to a block")
 }
 
 // The numbers of the plan, with the letters that they go by.
-fn show_plan(rt: &LibcRuntime, plan: &Plan) -> io::Result<()> {
+fn show_plan(rt: &HostRuntime, plan: &Plan) -> io::Result<()> {
     let block = plan.parts().block_length;
     let sent = plan.sent_length();
     let bits = plan.parts().symbol_bits;
     let frame = plan.parts().frame_length;
-    println!(
-        rt,
+    println!(rt;
         "B = {block} bits of a block, N = {sent} bits sent, q = {bits} bits of a symbol, F = {frame} symbols of a frame"
     )
 }
 
-fn show_block(rt: &LibcRuntime, block: &[u8]) -> io::Result<()> {
-    println!(rt, "block, drawn by the seed {SEED}:")?;
+fn show_block(rt: &HostRuntime, block: &[u8]) -> io::Result<()> {
+    println!(rt; "block, drawn by the seed {SEED}:")?;
     show_digits(rt, &block[0..block.len().min(SHOWN)])?;
     if block.len() > SHOWN {
         let more = block.len() - SHOWN;
-        println!(rt, "and {more} bits more")?;
+        println!(rt; "and {more} bits more")?;
     }
     Ok(())
 }
 
 // The first frame on the air: a digit an index, or two of base sixteen where a symbol has more than three bits.
-fn show_frame(rt: &LibcRuntime, plan: &Plan, indices: &[u8]) -> io::Result<()> {
-    println!(rt, "first frame, on-air indices:")?;
+fn show_frame(rt: &HostRuntime, plan: &Plan, indices: &[u8]) -> io::Result<()> {
+    println!(rt; "first frame, on-air indices:")?;
     let frame = &indices[0..indices.len().min(plan.parts().frame_length)];
     if plan.parts().symbol_bits <= 3 {
         show_digits(rt, frame)
@@ -133,39 +124,36 @@ fn show_frame(rt: &LibcRuntime, plan: &Plan, indices: &[u8]) -> io::Result<()> {
     }
 }
 
-fn show_digits(rt: &LibcRuntime, digits: &[u8]) -> io::Result<()> {
+fn show_digits(rt: &HostRuntime, digits: &[u8]) -> io::Result<()> {
     for line in digits.chunks(LINE) {
         show_line_of_digits(rt, line)?;
     }
     Ok(())
 }
 
-fn show_line_of_digits(rt: &LibcRuntime, digits: &[u8]) -> io::Result<()> {
+fn show_line_of_digits(rt: &HostRuntime, digits: &[u8]) -> io::Result<()> {
     for digit in digits {
-        print!(rt, "{digit}")?;
+        print!(rt; "{digit}")?;
     }
-    println!(rt, "")
+    println!(rt; "")
 }
 
-fn show_bytes(rt: &LibcRuntime, bytes: &[u8]) -> io::Result<()> {
+fn show_bytes(rt: &HostRuntime, bytes: &[u8]) -> io::Result<()> {
     for line in bytes.chunks(LINE / 2) {
         show_line_of_bytes(rt, line)?;
     }
     Ok(())
 }
 
-fn show_line_of_bytes(rt: &LibcRuntime, bytes: &[u8]) -> io::Result<()> {
+fn show_line_of_bytes(rt: &HostRuntime, bytes: &[u8]) -> io::Result<()> {
     for byte in bytes {
-        print!(rt, "{byte:02X}")?;
+        print!(rt; "{byte:02X}")?;
     }
-    println!(rt, "")
+    println!(rt; "")
 }
 
-fn show_checksum(rt: &LibcRuntime, indices: &[u8]) -> io::Result<()> {
+fn show_checksum(rt: &HostRuntime, indices: &[u8]) -> io::Result<()> {
     let count = indices.len();
     let sum = crc32(indices);
-    println!(
-        rt,
-        "CRC-32 of all {count} on-air indices, a byte each: {sum:08X}"
-    )
+    println!(rt; "CRC-32 of all {count} on-air indices, a byte each: {sum:08X}")
 }

@@ -32,64 +32,61 @@ fn across(column: usize) -> usize {
     column.saturating_mul(50).saturating_add(90)
 }
 
-pub(crate) fn show_svg(rt: &LibcRuntime, choice: Choice, dots: &[Dot]) -> io::Result<()> {
+pub(crate) fn show_svg(rt: &HostRuntime, choice: Choice, dots: &[Dot]) -> io::Result<()> {
     let wide = across(dots.len());
-    println!(
-        rt,
+    println!(rt;
         "<svg xmlns=\"http://www.w3.org/2000/svg\" width=\"{wide}\" height=\"500\" font-family=\"sans-serif\" font-size=\"12\">"
     )?;
-    println!(rt, "<rect width=\"100%\" height=\"100%\" fill=\"white\"/>")?;
+    println!(rt; "<rect width=\"100%\" height=\"100%\" fill=\"white\"/>")?;
     show_lines(rt, wide)?;
     show_path(rt, dots)?;
     show_circles(rt, dots)?;
     show_caption(rt, choice)?;
-    println!(rt, "</svg>")
+    println!(rt; "</svg>")
 }
 
 // A line for each power of ten.
-fn show_lines(rt: &LibcRuntime, wide: usize) -> io::Result<()> {
+fn show_lines(rt: &HostRuntime, wide: usize) -> io::Result<()> {
     for (i, label) in ["1", "0.1", "0.01", "0.001", "0.0001", "0.00001"]
         .iter()
-        .enumerate() {
+        .enumerate()
+    {
         let y = height(i.saturating_mul(20));
-        println!(
-            rt,
+        println!(rt;
             "<line x1=\"70\" x2=\"{wide}\" y1=\"{y}\" y2=\"{y}\" stroke=\"silver\"/><text x=\"10\" y=\"{y}\">{label}</text>"
         )?;
     }
     Ok(())
 }
 
-fn show_path(rt: &LibcRuntime, dots: &[Dot]) -> io::Result<()> {
-    print!(rt, "<polyline fill=\"none\" stroke=\"black\" points=\"")?;
+fn show_path(rt: &HostRuntime, dots: &[Dot]) -> io::Result<()> {
+    print!(rt; "<polyline fill=\"none\" stroke=\"black\" points=\"")?;
     for (i, dot) in dots.iter().enumerate() {
         let x = across(i);
         let y = height(steps_below(dot.rate()));
-        print!(rt, "{x},{y} ")?;
+        print!(rt; "{x},{y} ")?;
     }
-    println!(rt, "\"/>")
+    println!(rt; "\"/>")
 }
 
-fn show_circles(rt: &LibcRuntime, dots: &[Dot]) -> io::Result<()> {
+fn show_circles(rt: &HostRuntime, dots: &[Dot]) -> io::Result<()> {
     for (i, dot) in dots.iter().enumerate() {
         let x = across(i);
         let y = height(steps_below(dot.rate()));
         let decibels = dot.decibels;
-        println!(
-            rt,
+        println!(rt;
             "<circle cx=\"{x}\" cy=\"{y}\" r=\"4\"/><text x=\"{x}\" y=\"460\" text-anchor=\"middle\">{decibels} dB</text>"
         )?;
     }
     Ok(())
 }
 
-fn show_caption(rt: &LibcRuntime, choice: Choice) -> io::Result<()> {
+fn show_caption(rt: &HostRuntime, choice: Choice) -> io::Result<()> {
     let bandwidth = choice.row.bandwidth;
     let waveform = choice.row.waveform;
     let interleaver = choice.row.interleaver;
     let constraint = choice.constraint;
-    println!(
-        rt,
+    println!(rt;
         "<text x=\"10\" y=\"20\">bit error rate, {bandwidth} kHz, waveform {waveform}, interleaver {interleaver}, constraint length {constraint}: best possible decoding</text>"
     )
 }

@@ -1,12 +1,9 @@
 // What can go wrong, and how it is said.
 use channel::PhasesOnly;
-use channel::PhasesOnlyDisplay;
 use plan::ChainFault;
-use plan::ChainFaultDisplay;
-use std::alloc::AllocError;
-use std::alloc::Refused;
-use std::fmt;
-use std::io;
+use std::alloc::{AllocError, AllocFailed};
+use std::fmt::Display;
+use std::{fmt, io};
 
 // What is wrong with the arguments.
 #[derive(Clone, Copy)]
@@ -25,38 +22,38 @@ pub enum Trouble {
     Outside(io::Error),
 }
 
-pub impl From<Slip> for Trouble as TroubleFromSlip {
+impl From<Slip> for Trouble {
     fn from(slip: Slip) -> Trouble {
         Trouble::Arguments(slip)
     }
 }
 
-pub impl From<ChainFault> for Trouble as TroubleFromChain {
+impl From<ChainFault> for Trouble {
     fn from(fault: ChainFault) -> Trouble {
         Trouble::Chain(fault)
     }
 }
 
-pub impl From<PhasesOnly> for Trouble as TroubleFromPhases {
+impl From<PhasesOnly> for Trouble {
     fn from(fault: PhasesOnly) -> Trouble {
         Trouble::Phases(fault)
     }
 }
 
-pub impl From<io::Error> for Trouble as TroubleFromIo {
+impl From<io::Error> for Trouble {
     fn from(error: io::Error) -> Trouble {
         Trouble::Outside(error)
     }
 }
 
-pub impl From<AllocError> for Trouble as TroubleFromAlloc {
+impl From<AllocError> for Trouble {
     fn from(_error: AllocError) -> Trouble {
         Trouble::Chain(ChainFault::OutOfMemory)
     }
 }
 
-pub impl<T: Drop> From<Refused<T>> for Trouble as TroubleFromRefused {
-    fn from(_error: Refused<T>) -> Trouble {
+impl<T: Drop> From<AllocFailed<T>> for Trouble {
+    fn from(_error: AllocFailed<T>) -> Trouble {
         Trouble::Chain(ChainFault::OutOfMemory)
     }
 }
@@ -68,7 +65,7 @@ const USAGE: &'static str =
        curve time
 ROW is four numbers: bandwidth in kHz, waveform, interleaver, constraint length";
 
-pub impl fmt::Display for Slip as SlipDisplay {
+impl fmt::Display for Slip {
     fn fmt<W: fmt::Write>(&self, f: &mut fmt::Formatter<W>) -> fmt::Result {
         match self {
             Slip::Word => f.write_str("there is no such word or option\n")?,
@@ -80,7 +77,7 @@ pub impl fmt::Display for Slip as SlipDisplay {
     }
 }
 
-pub impl fmt::Display for Trouble as TroubleDisplay {
+impl fmt::Display for Trouble {
     fn fmt<W: fmt::Write>(&self, f: &mut fmt::Formatter<W>) -> fmt::Result {
         match self {
             Trouble::Arguments(slip) => slip.fmt(f),

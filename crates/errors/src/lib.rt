@@ -1,8 +1,6 @@
 // Errors of shown blocks against sent ones: what a dot of an error curve counts.
-ghost use mathlib.Core.Path.{_≡_};
-ghost use mathlib.Core.Bool.{cond};
-ghost use lib.Dec.{eqb};
-ghost use Rattle·errors·specs.Errors.{differing, added, with-block};
+ghost use Rattle.std.specs.Prelude.{◌≡◌, cond};
+ghost use Rattle.errors.specs.Errors.{differing, added, with_block};
 
 #[derive(Clone, Copy, Debug, PartialEq, Eq)]
 pub struct Count {
@@ -14,7 +12,7 @@ pub struct Count {
 
 // At how many places two blocks differ. A place that only one of them has counts too.
 pub fn differences(sent: &[u8], shown: &[u8]) -> usize
-    ensures { λ r. ⌜ r ≡ differing (now (sent .entry)) (now (shown .entry)) ⌝ }
+    ensures { result ≡ differing sent.now shown.now }
 {
     let shared = sent.len().min(shown.len());
     let mut count = 0;
@@ -29,7 +27,7 @@ pub fn differences(sent: &[u8], shown: &[u8]) -> usize
 impl Count {
     // Nothing is counted yet.
     pub fn none() -> Count
-        ensures { λ r. ⌜ r ≡ record { blocks = 0; bits = 0; «bit_errors» = 0; «block_errors» = 0 } ⌝ }
+        ensures { result ≡ record { blocks = 0; bits = 0; bit_errors = 0; block_errors = 0 } }
     {
         Count {
             blocks: 0,
@@ -41,7 +39,7 @@ impl Count {
 
     // Counts one block more.
     pub fn add(&mut self, sent: &[u8], shown: &[u8])
-        ensures { λ _. ⌜ now (self .exit) ≡ with-block (now (self .entry)) (now (sent .entry)) (now (shown .entry)) ⌝ }
+        ensures { self.new ≡ with_block self.old sent.now shown.now }
     {
         let errors = differences(sent, shown);
         self.blocks = self.blocks.saturating_add(1);

@@ -1,18 +1,14 @@
 -- The line of each command, by what it writes.
 -- Assumes nothing.
-use mathlib.Core.List.{List, [], _∷_, _++_, map}
-use mathlib.Core.Path.{_≡_}
-use Prim.Native.Nat.{ℕ, _^_, _<_, _≤_}
-use lib.ListN.{length}
-use mir.Syntax.{w16}
-use mir.Val.{ofZ}
-use Rattle·std.specs.Of.Vec.{vec-items}
-use Rattle·std.specs.shelf.Lists.{All, joined}
-use Rattle·plan.specs.Parts.{scheme}
-use Rattle·plan.specs.Scheme.{Scheme}
-use Rattle·lines·specs.Hex.{hex, big-endian}
-use Rattle·lines·specs.declared.command.Command.{Command}
-use Rattle·lines·specs.declared.command.Command.the-variants.{Plan, Table, Hear, Note, Blank, Look}
+use Rattle.std.specs.Prelude.{◌≡◌, ℕ, ◌^◌, ◌<◌, ◌≤◌, List, [], ◌∷◌, ◌++◌, map, length, vec_items}
+use Rattle.std.specs.Int.{w16}
+use Rattle.std.proofs.Common.{of_z}
+use Rattle.std.specs.List.{flat_map, AllByRecursion as All}
+use Rattle.plan.specs.Parts.{scheme}
+use Rattle.plan.specs.Scheme.{Scheme}
+use Rattle.lines.specs.Hex.{hex, big_endian}
+use Rattle.lines.specs.declared.command.Command.{Command}
+use Rattle.lines.specs.declared.command.Command.TheVariants.{Plan, Table, Hear, Note, Blank, Look}
 
 -- a number, and in how many bytes it is written
 pub record Field : Type 0 where
@@ -23,17 +19,17 @@ abbrev pub field : ℕ → ℕ → Field
 field width number = record { width = width; number = number }
 
 -- the send list stands after its length
-abbrev pub plan-fields : Scheme → List Field
-plan-fields s =
-    field 1 (s .constraint) ∷ field 1 (s .period) ∷ field 1 (length (s .entries)) ∷ (map (field 1) (s .entries)
-    ++ (field 3 (s .block) ∷ field 1 (s .bits) ∷ field 2 (s .frame) ∷ field 3 (s .increment) ∷ []))
+abbrev pub plan_fields : Scheme → List Field
+plan_fields s =
+    field 1 s.constraint ∷ field 1 s.period ∷ field 1 (length s.entries) ∷ (map (field 1) s.entries
+    ++ (field 3 s.block ∷ field 1 s.bits ∷ field 2 s.frame ∷ field 3 s.increment ∷ []))
 
 -- what follows the first character; a value is written in two's complement
 abbrev pub fields : Command → List Field
-fields (Plan parts) = plan-fields (scheme parts)
-fields (Table values) = map (field 1) (vec-items values)
+fields (Plan parts) = plan_fields (scheme parts)
+fields (Table values) = map (field 1) (vec_items values)
 fields (Hear place index weight) = field 3 place ∷ field 1 index ∷ field 2 weight ∷ []
-fields (Note location value) = field 3 location ∷ field 2 (ofZ w16 value) ∷ []
+fields (Note location value) = field 3 location ∷ field 2 (of_z w16 value) ∷ []
 fields (Blank place) = field 3 place ∷ []
 fields Look = []
 
@@ -48,11 +44,11 @@ kind Look = 76
 
 -- the fields one after another, as bytes
 abbrev pub packed : List Field → List ℕ
-packed fs = joined (λ f. big-endian (f .width) (f .number)) fs
+packed fs = flat_map (λ f. big_endian f.width f.number) fs
 
 -- every number is small enough for its bytes
 abbrev pub Fitting : List Field → Type 0
-Fitting fs = All (λ f. f .number < 256 ^ f .width) fs
+Fitting fs = All (λ f. f.number < 256 ^ f.width) fs
 
 abbrev pub text : Command → List ℕ
 text c = kind c ∷ hex (packed (fields c))

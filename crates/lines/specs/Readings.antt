@@ -1,23 +1,15 @@
 -- What reading a text, the fields of a command and a whole line answer.
 -- Assumes nothing.
-use mathlib.Core.List.{List, _∷_, _++_}
-use mathlib.Core.Logic.{_⊎_}
-use mathlib.Core.Path.{_≡_}
-use Prim.Native.Nat.{ℕ}
-use lib.ListN.{length}
-use Rattle·std.specs.Of.Vec.{vec-items}
-use Rattle·std.specs.declared.alloc.Global.{Global}
-use Rattle·std.specs.declared.result.Result.{Result}
-use Rattle·std.specs.declared.result.Result.the-variants.{Ok, Err}
-use Rattle·std.specs.declared.vec.Vec.{Vec}
-use Rattle·plan.specs.Parts.{scheme}
-use Rattle·plan.specs.declared.parts.Parts.{Parts}
-use Rattle·plan.specs.declared.fault.ChainFault.the-variants.{OutOfMemory}
-use Rattle·lines·specs.Commands.{kind, fields, plan-fields, Fitting, packed, Writes}
-use Rattle·lines·specs.Hex.{hex, Bytes}
-use Rattle·lines·specs.declared.command.Command.{Command}
-use Rattle·lines·specs.declared.fault.LineFault.{LineFault}
-use Rattle·lines·specs.declared.fault.LineFault.the-variants.{Chain, Form}
+use Rattle.std.specs.Prelude.{◌≡◌, ℕ, ◌⊎◌, List, ◌∷◌, ◌++◌, length, Ok, Err, vec_items, Result, Vec}
+use Rattle.std.specs.declared.alloc.Global.{Global}
+use Rattle.plan.specs.Parts.{scheme}
+use Rattle.plan.specs.declared.parts.Parts.{Parts}
+use Rattle.plan.specs.declared.fault.ChainFault.TheVariants.{OutOfMemory}
+use Rattle.lines.specs.Commands.{kind, fields, plan_fields, Fitting, packed, Writes}
+use Rattle.lines.specs.Hex.{hex, Bytes}
+use Rattle.lines.specs.declared.command.Command.{Command}
+use Rattle.lines.specs.declared.fault.LineFault.{LineFault}
+use Rattle.lines.specs.declared.fault.LineFault.TheVariants.{Chain, Form}
 
 -- refused for want of memory, or for its form where nothing has it
 abbrev pub Refuses : Type 0 → LineFault → Type 0
@@ -25,7 +17,7 @@ Refuses Formed e = (e ≡ Chain OutOfMemory) ⊎ ((e ≡ Form) × (Formed → �
 
 -- the bytes whose digits the text is
 abbrev pub HexReading : List ℕ → Result (Vec ℕ Global) LineFault → Type 0
-HexReading text (Ok v) = Bytes (vec-items v) × (hex (vec-items v) ≡ text)
+HexReading text (Ok v) = Bytes (vec_items v) × (hex (vec_items v) ≡ text)
 HexReading text (Err e) = Refuses ((bs : List ℕ) × Bytes bs × (hex bs ≡ text)) e
 
 -- the command has this first character, and its fields are these bytes
@@ -39,7 +31,7 @@ FieldReading k bytes (Err e) = Refuses ((c : Command) × Holds k bytes c) e
 -- the parts whose fields are two bytes, the length of a list, the list, and what follows it
 abbrev pub PartsReading : ℕ → ℕ → List ℕ → List ℕ → Result Parts LineFault → Type 0
 PartsReading k p list last (Ok parts) =
-    Fitting (plan-fields (scheme parts)) × (packed (plan-fields (scheme parts)) ≡ k ∷ p ∷ length list ∷ (list ++ last))
+    Fitting (plan_fields (scheme parts)) × (packed (plan_fields (scheme parts)) ≡ k ∷ p ∷ length list ∷ (list ++ last))
 PartsReading k p list last (Err e) = Refuses (length last ≡ 9) e
 
 -- the command whose line it is; a line that no command has is refused for its form

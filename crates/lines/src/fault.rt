@@ -1,13 +1,12 @@
 // Why a line is refused: a fault of the chain, or one of the line's own.
-ghost use mathlib.Core.Path.{_≡_};
-ghost use Rattle·lines·specs.Faults.{line-number};
-ghost use Rattle·lines·specs.declared.fault.LineFault.the-variants.{Chain};
-ghost use Rattle·plan.specs.Faults.{plan-number, chain-number};
-ghost use Rattle·plan.specs.declared.fault.ChainFault.the-variants.{OutOfMemory};
-use plan::ChainFault;
-use plan::PlanFault;
-use std::alloc::AllocError;
-use std::alloc::Refused;
+ghost use Rattle.std.specs.Prelude.{◌≡◌};
+ghost use Rattle.lines.specs.Faults.{line_number};
+ghost use Rattle.lines.specs.declared.fault.LineFault.TheVariants.{Chain};
+ghost use Rattle.plan.specs.Faults.{plan_number, chain_number};
+ghost use Rattle.plan.specs.declared.fault.ChainFault.TheVariants.{OutOfMemory};
+
+use plan::{ChainFault, PlanFault};
+use std::alloc::{AllocError, AllocFailed};
 
 #[derive(Clone, Copy)]
 pub enum LineFault {
@@ -20,32 +19,32 @@ pub enum LineFault {
     Size,
 }
 
-pub impl From<ChainFault> for LineFault as LineFromChain {
-    ghost converts = { λ f r. r ≡ Chain f };
+impl From<ChainFault> for LineFault {
+    ghost from_gives = { λ f r. r ≡ Chain f };
 
     fn from(fault: ChainFault) -> LineFault {
         LineFault::Chain(fault)
     }
 }
 
-pub impl From<AllocError> for LineFault as LineFromAlloc {
-    ghost converts = { λ _ r. r ≡ Chain OutOfMemory };
+impl From<AllocError> for LineFault {
+    ghost from_gives = { λ _ r. r ≡ Chain OutOfMemory };
 
     fn from(_e: AllocError) -> LineFault {
         LineFault::Chain(ChainFault::OutOfMemory)
     }
 }
 
-pub impl<T: Drop> From<Refused<T>> for LineFault as LineFromRefused {
-    ghost converts = { λ _ r. r ≡ Chain OutOfMemory };
+impl<T: Drop> From<AllocFailed<T>> for LineFault {
+    ghost from_gives = { λ _ r. r ≡ Chain OutOfMemory };
 
-    fn from(_e: Refused<T>) -> LineFault {
+    fn from(_e: AllocFailed<T>) -> LineFault {
         LineFault::Chain(ChainFault::OutOfMemory)
     }
 }
 
 fn plan_number(fault: PlanFault) -> u8
-    ensures { λ r. ⌜ r ≡ plan-number fault ⌝ }
+    ensures { result ≡ plan_number fault }
 {
     match fault {
         PlanFault::ConstraintLength => 1,
@@ -60,7 +59,7 @@ fn plan_number(fault: PlanFault) -> u8
 }
 
 fn chain_number(fault: ChainFault) -> u8
-    ensures { λ r. ⌜ r ≡ chain-number fault ⌝ }
+    ensures { result ≡ chain_number fault }
 {
     match fault {
         ChainFault::Plan(below) => plan_number(below),
@@ -80,7 +79,7 @@ fn chain_number(fault: ChainFault) -> u8
 impl LineFault {
     // The number that the answer shows.
     pub fn number(self) -> u8
-        ensures { λ r. ⌜ r ≡ line-number self ⌝ }
+        ensures { result ≡ line_number self }
     {
         match self {
             LineFault::Chain(below) => chain_number(below),

@@ -1,43 +1,40 @@
 // The fields of each kind of command, taken from the bytes after its first character.
-ghost use mathlib.Core.List.{[], _∷_, _++_};
-ghost use mathlib.Core.Path.{_≡_};
-ghost use Prim.Native.Nat.{_<_};
-ghost use lib.ListN.{length};
-ghost use mir.Syntax.{w16};
-ghost use mir.Val.{ofZ};
-ghost use Rattle·lines·specs.Hex.{big-endian};
-ghost use Rattle·lines·specs.Readings.{FieldReading, PartsReading};
+ghost use Rattle.std.specs.Prelude.{◌≡◌, ◌<◌, [], ◌∷◌, ◌++◌, length};
+ghost use Rattle.std.specs.Int.{w16};
+ghost use Rattle.std.proofs.Common.{of_z};
+ghost use Rattle.lines.specs.Hex.{big_endian};
+ghost use Rattle.lines.specs.Readings.{FieldReading, PartsReading};
+
 use crate::command::Command;
 use crate::fault::LineFault;
-use crate::fault::LineFromAlloc;
 use plan::Parts;
 use std::alloc::Global;
 
 // The number that two bytes write.
 fn two(high: u8, low: u8) -> u16
-    ensures { λ r. ⌜ big-endian 2 r ≡ high ∷ low ∷ [] ⌝ }
+    ensures { big_endian 2 result ≡ high ∷ low ∷ [] }
 {
     u16::from_be_bytes([high, low])
 }
 
 // The number whose two's complement two bytes write.
 fn signed(high: u8, low: u8) -> i16
-    ensures value { λ r. ⌜ big-endian 2 (ofZ w16 r) ≡ high ∷ low ∷ [] ⌝ }
-    ensures small { λ r. ⌜ ofZ w16 r < 65536 ⌝ }
+    ensures value { big_endian 2 (of_z w16 result) ≡ high ∷ low ∷ [] }
+    ensures small { of_z w16 result < 65536 }
 {
     i16::from_be_bytes([high, low])
 }
 
 // The number that three bytes write.
 fn three(high: u8, middle: u8, low: u8) -> usize
-    ensures value { λ r. ⌜ big-endian 3 r ≡ high ∷ middle ∷ low ∷ [] ⌝ }
-    ensures small { λ r. ⌜ r < 16777216 ⌝ }
+    ensures value { big_endian 3 result ≡ high ∷ middle ∷ low ∷ [] }
+    ensures small { result < 16777216 }
 {
     u32::from_be_bytes([0, high, middle, low]) as usize
 }
 
 pub(crate) fn read_hear(bytes: &[u8]) -> Result<Command, LineFault>
-    ensures { λ r. ⌜ FieldReading 72 (now (bytes .entry)) r ⌝ }
+    ensures { FieldReading 72 bytes.now result }
 {
     let [top, middle, bottom, index, high, low] = bytes else {
         return Err(LineFault::Form);
@@ -52,7 +49,7 @@ pub(crate) fn read_hear(bytes: &[u8]) -> Result<Command, LineFault>
 }
 
 pub(crate) fn read_note(bytes: &[u8]) -> Result<Command, LineFault>
-    ensures { λ r. ⌜ FieldReading 86 (now (bytes .entry)) r ⌝ }
+    ensures { FieldReading 86 bytes.now result }
 {
     let [top, middle, bottom, high, low] = bytes else {
         return Err(LineFault::Form);
@@ -63,7 +60,7 @@ pub(crate) fn read_note(bytes: &[u8]) -> Result<Command, LineFault>
 }
 
 pub(crate) fn read_blank(bytes: &[u8]) -> Result<Command, LineFault>
-    ensures { λ r. ⌜ FieldReading 67 (now (bytes .entry)) r ⌝ }
+    ensures { FieldReading 67 bytes.now result }
 {
     let [top, middle, bottom] = bytes else {
         return Err(LineFault::Form);
@@ -73,7 +70,7 @@ pub(crate) fn read_blank(bytes: &[u8]) -> Result<Command, LineFault>
 }
 
 pub(crate) fn read_look(bytes: &[u8]) -> Result<Command, LineFault>
-    ensures { λ r. ⌜ FieldReading 76 (now (bytes .entry)) r ⌝ }
+    ensures { FieldReading 76 bytes.now result }
 {
     let [] = bytes else {
         return Err(LineFault::Form);
@@ -89,8 +86,8 @@ fn read_parts(
     list: &[u8],
     last: &[u8],
 ) -> Result<Parts, LineFault>
-    requires { ⌜ length (now list) < 256 ⌝ }
-    ensures { λ r. ⌜ PartsReading constraint period (now (list .entry)) (now (last .entry)) r ⌝ }
+    requires { length list.now < 256 }
+    ensures { PartsReading constraint period list.now last.now result }
 {
     let [b2, b1, b0, bits, f1, f0, i2, i1, i0] = last else {
         return Err(LineFault::Form);
@@ -111,7 +108,7 @@ fn read_parts(
 }
 
 pub(crate) fn read_plan(heap: Global, bytes: &[u8]) -> Result<Command, LineFault>
-    ensures { λ r. ⌜ FieldReading 80 (now (bytes .entry)) r ⌝ }
+    ensures { FieldReading 80 bytes.now result }
 {
     let [constraint, period, entries, rest @ ..] = bytes else {
         return Err(LineFault::Form);

@@ -1,22 +1,14 @@
 // Bytes as upper-case hexadecimal text, two digits a byte.
-ghost use mathlib.Core.Bool.{true};
-ghost use mathlib.Core.List.{List, [], _∷_, _++_};
-ghost use mathlib.Core.Path.{_≡_};
-ghost use Prim.Native.Nat.{ℕ, _/_, _%_, _<_};
-ghost use Rattle·lines·specs.Hex.{hex-digit, hex};
-ghost use Rattle·lines·specs.Readings.{HexReading};
-ghost use Rattle·std.specs.Of.String.{string-bytes};
-ghost use Rattle·std.specs.Results.{isOk};
-ghost use Rattle·std.specs.Options.{Cases as BySome};
+ghost use Rattle.std.specs.Prelude.{◌≡◌, ℕ, ◌/◌, ◌%◌, ◌<◌, true, List, [], ◌∷◌, ◌++◌, is_ok, string_bytes, MatchOption, ◌≢◌};
+ghost use Rattle.lines.specs.Hex.{hex_digit, hex};
+ghost use Rattle.lines.specs.Readings.{HexReading};
+
 use crate::fault::LineFault;
-use crate::fault::LineFromAlloc;
-use crate::fault::LineFromRefused;
-use std::alloc::AllocError;
-use std::alloc::Global;
+use std::alloc::{AllocError, Global};
 
 // The number that a digit stands for.
 fn digit_value(digit: u8) -> Option<u8>
-    ensures { λ r. ⌜ BySome r ((n : ℕ) → n < 16 → hex-digit n ≡ digit → ⊥) (λ n. (n < 16) × (hex-digit n ≡ digit)) ⌝ }
+    ensures { MatchOption result ((n : ℕ) → n < 16 → hex_digit n ≢ digit) (λ n. (n < 16) × (hex_digit n ≡ digit)) }
 {
     match digit {
         b'0'..=b'9' => Some(digit - b'0'),
@@ -27,7 +19,7 @@ fn digit_value(digit: u8) -> Option<u8>
 
 // The byte that two digits stand for.
 fn byte_value(high: u8, low: u8) -> Option<u8>
-    ensures { λ r. ⌜ BySome r ((b : ℕ) → b < 256 → hex (b ∷ []) ≡ high ∷ low ∷ [] → ⊥) (λ b. (b < 256) × (hex (b ∷ []) ≡ high ∷ low ∷ [])) ⌝ }
+    ensures { MatchOption result ((b : ℕ) → b < 256 → hex (b ∷ []) ≢ high ∷ low ∷ []) (λ b. (b < 256) × (hex (b ∷ []) ≡ high ∷ low ∷ [])) }
 {
     let upper = digit_value(high)?;
     let lower = digit_value(low)?;
@@ -36,7 +28,7 @@ fn byte_value(high: u8, low: u8) -> Option<u8>
 
 // The bytes that a text of digits writes.
 pub(crate) fn read_hex(heap: Global, text: &[u8]) -> Result<Vec<u8>, LineFault>
-    ensures { λ r. ⌜ HexReading (now (text .entry)) r ⌝ }
+    ensures { HexReading text.now result }
 {
     let mut bytes = Vec::with_capacity(heap, text.len() / 2)?;
     let mut rest = text;
@@ -56,9 +48,9 @@ pub(crate) fn read_hex(heap: Global, text: &[u8]) -> Result<Vec<u8>, LineFault>
 
 // The digit of a number below 16.
 fn digit(number: u8) -> char
-    requires { ⌜ number < 16 ⌝ }
-    ensures value { λ r. ⌜ r ≡ hex-digit number ⌝ }
-    ensures ascii { λ r. ⌜ r < 128 ⌝ }
+    requires { number < 16 }
+    ensures value { result ≡ hex_digit number }
+    ensures ascii { result < 128 }
 {
     char::from(if number < 10 {
         b'0' + number
@@ -69,7 +61,7 @@ fn digit(number: u8) -> char
 
 // Appends the two digits of a byte.
 fn write_byte(byte: u8, text: &mut String) -> Result<(), AllocError>
-    ensures { λ r. ⌜ (isOk r ≡ true → string-bytes (now (text .exit)) ≡ string-bytes (now (text .entry)) ++ hex (byte ∷ [])) ⌝ }
+    ensures { is_ok result ≡ true → string_bytes text.new ≡ string_bytes text.old ++ hex (byte ∷ []) }
 {
     text.push(digit(byte / 16))?;
     text.push(digit(byte % 16))
@@ -77,7 +69,7 @@ fn write_byte(byte: u8, text: &mut String) -> Result<(), AllocError>
 
 // Appends the digits of bytes.
 pub(crate) fn write_hex(bytes: &[u8], text: &mut String) -> Result<(), AllocError>
-    ensures { λ r. ⌜ (isOk r ≡ true → string-bytes (now (text .exit)) ≡ string-bytes (now (text .entry)) ++ hex (now (bytes .entry))) ⌝ }
+    ensures { is_ok result ≡ true → string_bytes text.new ≡ string_bytes text.old ++ hex bytes.now }
 {
     for byte in bytes {
         write_byte(*byte, text)?;

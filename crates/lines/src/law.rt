@@ -1,7 +1,7 @@
 // What holds of all lines.
-ghost use Rattle·lines·specs.Laws.{One-reading};
+ghost use Rattle.lines.specs.Laws.{OneReading};
 
 // No line is that of two commands.
 pub fn one_reading_holds()
-    ensures { λ _. ⌜ One-reading ⌝ }
+    ensures { OneReading }
 {}

@@ -14,9 +14,6 @@ pub use accept::accept_plan;
 pub use answer::Answer;
 pub use command::Command;
 pub use fault::LineFault;
-pub use fault::LineFromAlloc;
-pub use fault::LineFromChain;
-pub use fault::LineFromRefused;
 pub use input::Line;
 pub use law::one_reading_holds;
 pub use reading::parse;
@@ -25,30 +22,31 @@ pub use writing::answer_text;
 #[cfg(test)]
 mod tests {
     use super::*;
-    use std::test::*;
+    use std::test::Fail;
 
     #[test]
-    fn plan_is_read(rt: LibcRuntime) -> Result<(), Fail> {
+    fn plan_is_read(rt: HostRuntime) -> Result<(), Fail> {
         let Ok(Command::Plan(parts)) = parse(rt.alloc(), b"P07030400010205000009030004000005")
         else {
             return Err(Fail::new("the line is no plan's"));
         };
-        check_eq(parts.send_list.as_slice(), &[0, 1, 2, 5])?;
-        check_eq(
+        assert_eq!(rt; parts.send_list.as_slice(), &[0, 1, 2, 5]);
+        assert_eq!(rt;
             (parts.constraint, parts.period, parts.symbol_bits),
-            (7, 3, 3),
-        )?;
-        check_eq(
+            (7, 3, 3)
+        );
+        assert_eq!(rt;
             (parts.block_length, parts.frame_length, parts.increment),
-            (9, 4, 5),
-        )
+            (9, 4, 5)
+        );
+        Ok(())
     }
 
     #[test]
-    fn answers_are_written(rt: LibcRuntime) -> Result<(), Fail> {
+    fn answers_are_written(rt: HostRuntime) -> Result<(), Fail> {
         let block = [1, 0, 0, 0, 0, 0, 0, 0, 1].to_vec(rt.alloc())?;
         let shown = answer_text(rt.alloc(), &Answer::Shown { score: 171, block })?;
-        check_eq(shown.as_str(), "L00000000000000AB8080\n")?;
+        assert_eq!(rt; shown.as_str(), "L00000000000000AB8080\n");
         let refused = answer_text(
             rt.alloc(),
             &Answer::Refused {
@@ -56,6 +54,7 @@ mod tests {
                 line: 7,
             },
         )?;
-        check_eq(refused.as_str(), "R0E0007\n")
+        assert_eq!(rt; refused.as_str(), "R0E0007\n");
+        Ok(())
     }
 }

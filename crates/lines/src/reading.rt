@@ -1,7 +1,7 @@
 // A line of the bench program, read as a command.
-ghost use Rattle·lines·specs.Hex.{Bytes};
-ghost use Rattle·lines·specs.Readings.{FieldReading, LineReading};
-ghost use Rattle·std.specs.Of.Vec.{vec-items};
+ghost use Rattle.lines.specs.Hex.{Bytes};
+ghost use Rattle.lines.specs.Readings.{FieldReading, LineReading};
+
 use crate::command::Command;
 use crate::fault::LineFault;
 use crate::fields::*;
@@ -13,8 +13,8 @@ const LONGEST: usize = 2080;
 
 // The command of this kind with these bytes as its fields.
 fn read_command(heap: Global, kind: u8, bytes: Vec<u8>) -> Result<Command, LineFault>
-    requires { ⌜ Bytes (vec-items bytes) ⌝ }
-    ensures { λ r. ⌜ FieldReading kind (vec-items bytes) r ⌝ }
+    requires { Bytes bytes.items }
+    ensures { FieldReading kind bytes.items result }
 {
     match char::from(kind) {
         'P' => read_plan(heap, bytes.as_slice()),
@@ -29,7 +29,7 @@ fn read_command(heap: Global, kind: u8, bytes: Vec<u8>) -> Result<Command, LineF
 
 // The command whose line this is.
 pub fn parse(heap: Global, line: &[u8]) -> Result<Command, LineFault>
-    ensures { λ r. ⌜ LineReading (now (line .entry)) r ⌝ }
+    ensures { LineReading line.now result }
 {
     if line.len() > LONGEST {
         return Err(LineFault::Form);

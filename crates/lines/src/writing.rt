@@ -1,23 +1,15 @@
 // An answer as text.
-ghost use mathlib.Core.List.{List, [], _∷_, _++_};
-ghost use mathlib.Core.Bool.{true};
-ghost use mathlib.Core.Path.{_≡_};
-ghost use Prim.Native.Nat.{_+_, _*_, _^_, _≤_, _<_};
-ghost use lib.ListN.{length};
-ghost use Rattle·lines·specs.Answers.{bit-at, bits-number, bits-packed, letter, answer-bytes, answer-text};
-ghost use Rattle·lines·specs.Hex.{big-endian};
-ghost use Rattle·std.specs.Of.String.{string-bytes};
-ghost use Rattle·std.specs.Of.Vec.{vec-items};
-ghost use Rattle·std.specs.Results.{isOk};
-ghost use Rattle·std.specs.Vec.{made};
+ghost use Rattle.std.specs.Prelude.{◌≡◌, ◌+◌, ◌*◌, ◌^◌, ◌<◌, ◌≤◌, true, List, [], ◌∷◌, ◌++◌, length, is_ok, IfOk, string_bytes};
+ghost use Rattle.lines.specs.Answers.{bit_at, bits_number, bits_packed, letter, answer_bytes, answer_text};
+ghost use Rattle.lines.specs.Hex.{big_endian};
+
 use crate::answer::Answer;
 use crate::hex::write_hex;
-use std::alloc::AllocError;
-use std::alloc::Global;
+use std::alloc::{AllocError, Global};
 
 // The bit at a place of a block; past its end there are zeros.
 fn bit(block: &[u8], place: usize) -> u8
-    ensures { λ r. ⌜ r ≡ bit-at (now (block .entry)) place ⌝ }
+    ensures { result ≡ bit_at block.now place }
 {
     if place >= block.len() {
         return 0;
@@ -27,16 +19,16 @@ fn bit(block: &[u8], place: usize) -> u8
 
 // A number with one bit more after it.
 fn append_bit(number: u8, bit: u8) -> u8
-    requires { ⌜ number < 128 ⌝ ∗ ⌜ bit ≤ 1 ⌝ }
-    ensures { λ r. ⌜ r ≡ 2 * number + bit ⌝ }
+    requires { (number < 128) × (bit ≤ 1) }
+    ensures { result ≡ 2 * number + bit }
 {
     2 * number + bit
 }
 
 // The byte that eight bits from a place on write.
 fn octet(block: &[u8], place: usize) -> u8
-    requires { ⌜ place < 2 ^ 63 ⌝ }
-    ensures { λ r. ⌜ r ≡ bits-number (now (block .entry)) place 8 ⌝ }
+    requires { place < 2 ^ 63 }
+    ensures { result ≡ bits_number block.now place 8 }
 {
     let mut number = 0;
     for i in 0..8 {
@@ -47,8 +39,8 @@ fn octet(block: &[u8], place: usize) -> u8
 
 // Appends a block's bits, eight a byte.
 fn pack(block: &[u8], bytes: &mut Vec<u8>) -> Result<(), AllocError>
-    requires { ⌜ length (now block) < 2 ^ 63 ⌝ }
-    ensures { λ r. ⌜ (isOk r ≡ true → vec-items (now (bytes .exit)) ≡ vec-items (now (bytes .entry)) ++ bits-packed (now (block .entry))) ⌝ }
+    requires { length block.now < 2 ^ 63 }
+    ensures { is_ok result ≡ true → bytes.new.items ≡ bytes.old.items ++ bits_packed block.now }
 {
     for i in 0..block.len().div_ceil(8) {
         bytes.push(octet(block, 8 * i))?;
@@ -58,7 +50,7 @@ fn pack(block: &[u8], bytes: &mut Vec<u8>) -> Result<(), AllocError>
 
 // The first character of an answer.
 fn letter_of(answer: &Answer) -> char
-    ensures { λ r. ⌜ r ≡ letter (now (answer .entry)) ⌝ }
+    ensures { result ≡ letter answer.now }
 {
     match answer {
         Answer::Accepted => 'A',
@@ -69,14 +61,14 @@ fn letter_of(answer: &Answer) -> char
 
 // A score in eight bytes.
 fn score_bytes(score: u64) -> [u8; 8]
-    ensures { λ r. ⌜ r ≡ big-endian 8 score ⌝ }
+    ensures { result ≡ big_endian 8 score }
 {
     score.to_be_bytes()
 }
 
 // A refusal's number in one byte, and its line's in two.
 fn refusal_bytes(number: u8, line: u16) -> [u8; 3]
-    ensures { λ r. ⌜ r ≡ big-endian 1 number ++ big-endian 2 line ⌝ }
+    ensures { result ≡ big_endian 1 number ++ big_endian 2 line }
 {
     let [high, low] = line.to_be_bytes();
     [number, high, low]
@@ -84,8 +76,8 @@ fn refusal_bytes(number: u8, line: u16) -> [u8; 3]
 
 // A score, and a block's bits after it.
 fn shown_bytes(heap: Global, score: u64, block: &[u8]) -> Result<Vec<u8>, AllocError>
-    requires { ⌜ length (now block) < 2 ^ 63 ⌝ }
-    ensures { λ r. ⌜ made r (λ v. vec-items v ≡ big-endian 8 score ++ bits-packed (now (block .entry))) ⌝ }
+    requires { length block.now < 2 ^ 63 }
+    ensures { IfOk result (λ v. v.items ≡ big_endian 8 score ++ bits_packed block.now) }
 {
     let mut bytes = Vec::from_slice(heap, &score_bytes(score))?;
     pack(block, &mut bytes)?;
@@ -94,7 +86,7 @@ fn shown_bytes(heap: Global, score: u64, block: &[u8]) -> Result<Vec<u8>, AllocE
 
 // What follows the first character, before it is written as digits.
 fn bytes_of(heap: Global, answer: &Answer) -> Result<Vec<u8>, AllocError>
-    ensures { λ r. ⌜ made r (λ v. vec-items v ≡ answer-bytes (now (answer .entry))) ⌝ }
+    ensures { IfOk result (λ v. v.items ≡ answer_bytes answer.now) }
 {
     match answer {
         Answer::Accepted => Ok(Vec::new(heap)),
@@ -105,7 +97,7 @@ fn bytes_of(heap: Global, answer: &Answer) -> Result<Vec<u8>, AllocError>
 
 // An answer as a line of text.
 pub fn answer_text(heap: Global, answer: &Answer) -> Result<String, AllocError>
-    ensures { λ r. ⌜ made r (λ t. string-bytes t ≡ answer-text (now (answer .entry))) ⌝ }
+    ensures { IfOk result (λ t. string_bytes t ≡ answer_text answer.now) }
 {
     let bytes = bytes_of(heap, answer)?;
     let mut text = String::new(heap);

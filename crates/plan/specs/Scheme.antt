@@ -1,8 +1,6 @@
 -- A coding scheme by its seven parts: what every definition of the chain takes.
 -- Assumes nothing.
-use mathlib.Core.List.{List}
-use Prim.Native.Nat.{ℕ, _*_, _/_}
-use lib.ListN.{length}
+use Rattle.std.specs.Prelude.{ℕ, ◌*◌, ◌/◌, List, length}
 
 pub record Scheme : Type 0 where
   -- the constraint length k
@@ -21,5 +19,5 @@ pub record Scheme : Type 0 where
   pub increment : ℕ
 
 -- the sent length N: the send list runs once for each period of the block
-abbrev pub sent-length : Scheme → ℕ
-sent-length s = s .block / s .period * length (s .entries)
+abbrev pub sent_length : Scheme → ℕ
+sent_length s = s.block / s.period * length s.entries

@@ -1,8 +1,8 @@
 // Why a call is refused: a case for each question, in the order in which the questions are asked.
-ghost use mathlib.Core.Path.{_≡_};
-ghost use Rattle·plan·specs.declared.fault.ChainFault.the-variants.{Plan, OutOfMemory};
-use std::alloc::AllocError;
-use std::alloc::Refused;
+ghost use Rattle.std.specs.Prelude.{◌≡◌};
+ghost use Rattle.plan.specs.declared.fault.ChainFault.TheVariants.{Plan, OutOfMemory};
+
+use std::alloc::{AllocError, AllocFailed};
 use std::fmt;
 
 // What is wrong with the parts of a plan.
@@ -35,52 +35,50 @@ pub enum ChainFault {
     OutOfMemory,
 }
 
-pub impl From<PlanFault> for ChainFault as ChainFromPlan {
-    ghost converts = { λ f r. r ≡ Plan f };
+impl From<PlanFault> for ChainFault {
+    ghost from_gives = { λ f r. r ≡ Plan f };
 
     fn from(fault: PlanFault) -> ChainFault {
         ChainFault::Plan(fault)
     }
 }
 
-pub impl From<AllocError> for ChainFault as ChainFromAlloc {
-    ghost converts = { λ _ r. r ≡ OutOfMemory };
+impl From<AllocError> for ChainFault {
+    ghost from_gives = { λ _ r. r ≡ OutOfMemory };
 
     fn from(_e: AllocError) -> ChainFault {
         ChainFault::OutOfMemory
     }
 }
 
-pub impl<T: Drop> From<Refused<T>> for ChainFault as ChainFromRefused {
-    ghost converts = { λ _ r. r ≡ OutOfMemory };
+impl<T: Drop> From<AllocFailed<T>> for ChainFault {
+    ghost from_gives = { λ _ r. r ≡ OutOfMemory };
 
-    fn from(_e: Refused<T>) -> ChainFault {
+    fn from(_e: AllocFailed<T>) -> ChainFault {
         ChainFault::OutOfMemory
     }
 }
 
-pub impl fmt::Display for PlanFault as PlanFaultDisplay {
+impl fmt::Display for PlanFault {
     fn fmt<W: fmt::Write>(&self, f: &mut fmt::Formatter<W>) -> fmt::Result {
-        f.write_str(
-            match self {
-                PlanFault::ConstraintLength => "the constraint length is neither 7 nor 9",
-                PlanFault::Period =>
-                    "the period is not from 1 to 12, or the send list has not 1 to 32 entries",
-                PlanFault::Entry => "an entry of the send list is not below twice the period",
-                PlanFault::BlockLength =>
-                    "the block length is not from 9 to 1,843,200, or no multiple of the period",
-                PlanFault::SentLength => "more than 2,211,840 bits would be sent",
-                PlanFault::SymbolBits => "the bits of a symbol are none of 1, 2, 3, 4, 5, 6, 8",
-                PlanFault::FrameLength =>
-                    "the frame length is not from 1 to 4,096, or the frames are not filled exactly",
-                PlanFault::Increment =>
-                    "the increment is not from 1 to the sent length, or shares a divisor with it",
-            },
-        )
+        f.write_str(match self {
+            PlanFault::ConstraintLength => "the constraint length is neither 7 nor 9",
+            PlanFault::Period =>
+                "the period is not from 1 to 12, or the send list has not 1 to 32 entries",
+            PlanFault::Entry => "an entry of the send list is not below twice the period",
+            PlanFault::BlockLength =>
+                "the block length is not from 9 to 1,843,200, or no multiple of the period",
+            PlanFault::SentLength => "more than 2,211,840 bits would be sent",
+            PlanFault::SymbolBits => "the bits of a symbol are none of 1, 2, 3, 4, 5, 6, 8",
+            PlanFault::FrameLength =>
+                "the frame length is not from 1 to 4,096, or the frames are not filled exactly",
+            PlanFault::Increment =>
+                "the increment is not from 1 to the sent length, or shares a divisor with it",
+        })
     }
 }
 
-pub impl fmt::Display for ChainFault as ChainFaultDisplay {
+impl fmt::Display for ChainFault {
     fn fmt<W: fmt::Write>(&self, f: &mut fmt::Formatter<W>) -> fmt::Result {
         match self {
             ChainFault::Plan(fault) => fault.fmt(f),

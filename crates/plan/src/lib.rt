@@ -5,13 +5,7 @@ mod plan;
 mod questions;
 mod room;
 
-pub use fault::ChainFault;
-pub use fault::ChainFaultDisplay;
-pub use fault::ChainFromAlloc;
-pub use fault::ChainFromPlan;
-pub use fault::ChainFromRefused;
-pub use fault::PlanFault;
-pub use fault::PlanFaultDisplay;
+pub use fault::{ChainFault, PlanFault};
 pub use parts::Parts;
 pub use plan::Plan;
 pub use questions::all_below;

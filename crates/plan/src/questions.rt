@@ -1,39 +1,35 @@
 // The eight questions, each as a test. A later one may rest on the yes to an earlier one.
-ghost use mathlib.Core.Path.{_≡_};
-ghost use Prim.Native.Nat.{_*_, _/_, _<_, _≤_};
-ghost use lib.Dec.{eqb, leb};
-ghost use lib.ListN.{length};
-ghost use mathlib.Core.Bool.{_&&_, _||_};
-ghost use Rattle·plan·specs.Questions.{within, divides, all-below, coprime};
+ghost use Rattle.std.specs.Prelude.{◌≡◌, ◌*◌, ◌/◌, ◌<◌, ◌≤◌, ◌&&◌, ◌||◌, length, ◌==◌, nat_eq};
+ghost use Rattle.plan.specs.Questions.{within, divides, all_below, coprime};
 
 pub(crate) fn constraint_fits(constraint: usize) -> bool
-    ensures { λ r. ⌜ r ≡ (eqb constraint 7 || eqb constraint 9) ⌝ }
+    ensures { result ≡ (constraint == 7 || constraint == 9) }
 {
     constraint == 7 || constraint == 9
 }
 
 pub(crate) fn lies_within(low: usize, high: usize, n: usize) -> bool
-    ensures { λ r. ⌜ r ≡ within low high n ⌝ }
+    ensures { result ≡ within low high n }
 {
     low <= n && n <= high
 }
 
 pub(crate) fn is_multiple(n: usize, divisor: usize) -> bool
-    requires { ⌜ 0 < divisor ⌝ }
-    ensures { λ r. ⌜ r ≡ divides divisor n ⌝ }
+    requires { 0 < divisor }
+    ensures { result ≡ divides divisor n }
 {
     n % divisor == 0
 }
 
 pub(crate) fn period_fits(period: usize, entries: usize) -> bool
-    ensures { λ r. ⌜ r ≡ (within 1 12 period && within 1 32 entries) ⌝ }
+    ensures { result ≡ (within 1 12 period && within 1 32 entries) }
 {
     lies_within(1, 12, period) && lies_within(1, 32, entries)
 }
 
 // Whether every byte is below the bound.
 pub fn all_below(bytes: &[u8], bound: usize) -> bool
-    ensures { λ r. ⌜ r ≡ all-below bound (now (bytes .entry)) ⌝ }
+    ensures { result ≡ all_below bound bytes.now }
 {
     for byte in bytes {
         if usize::from(*byte) >= bound {
@@ -44,29 +40,29 @@ pub fn all_below(bytes: &[u8], bound: usize) -> bool
 }
 
 pub(crate) fn block_fits(block_length: usize, period: usize) -> bool
-    requires { ⌜ 0 < period ⌝ }
-    ensures { λ r. ⌜ r ≡ (within 9 1843200 «block_length» && divides period «block_length») ⌝ }
+    requires { 0 < period }
+    ensures { result ≡ (within 9 1843200 block_length && divides period block_length) }
 {
     lies_within(9, 1_843_200, block_length) && is_multiple(block_length, period)
 }
 
 pub(crate) fn bits_fit(symbol_bits: usize) -> bool
-    ensures { λ r. ⌜ r ≡ (within 1 6 «symbol_bits» || eqb «symbol_bits» 8) ⌝ }
+    ensures { result ≡ (within 1 6 symbol_bits || nat_eq symbol_bits 8) }
 {
     lies_within(1, 6, symbol_bits) || symbol_bits == 8
 }
 
 pub(crate) fn frame_fits(frame_length: usize, symbol_bits: usize, sent_length: usize) -> bool
-    requires { ⌜ 0 < «symbol_bits» ⌝ ∗ ⌜ «symbol_bits» ≤ 8 ⌝ }
-    ensures { λ r. ⌜ r ≡ (within 1 4096 «frame_length» && divides («symbol_bits» * «frame_length») «sent_length») ⌝ }
+    requires { (0 < symbol_bits) × (symbol_bits ≤ 8) }
+    ensures { result ≡ (within 1 4096 frame_length && divides (symbol_bits * frame_length) sent_length) }
 {
     lies_within(1, 4096, frame_length) && is_multiple(sent_length, symbol_bits * frame_length)
 }
 
 // Whether a and n share no divisor above 1, by Euclid's rule.
 pub(crate) fn is_coprime(a: usize, n: usize) -> bool
-    requires { ⌜ 0 < n ⌝ }
-    ensures { λ r. ⌜ r ≡ coprime a n ⌝ }
+    requires { 0 < n }
+    ensures { result ≡ coprime a n }
 {
     let mut x = a;
     let mut y = n;
@@ -79,7 +75,7 @@ pub(crate) fn is_coprime(a: usize, n: usize) -> bool
 }
 
 pub(crate) fn increment_fits(increment: usize, sent_length: usize) -> bool
-    ensures { λ r. ⌜ r ≡ (within 1 «sent_length» increment && coprime increment «sent_length») ⌝ }
+    ensures { result ≡ (within 1 sent_length increment && coprime increment sent_length) }
 {
     lies_within(1, sent_length, increment) && is_coprime(increment, sent_length)
 }

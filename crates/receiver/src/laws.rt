@@ -1,8 +1,8 @@
 // What holds of every receiver.
-ghost use Rattle·receiver·specs.Laws.{Made-fits, Fit-lasts};
+ghost use Rattle.receiver.specs.Laws.{MadeFits, FitLasts};
 
 // A receiver that making gave never answers that its scrambler does not fit.
 pub fn fit_lasts()
-    ensures made { λ _. ⌜ Made-fits ⌝ }
-    ensures lasts { λ _. ⌜ Fit-lasts ⌝ }
+    ensures made { MadeFits }
+    ensures lasts { FitLasts }
 {}

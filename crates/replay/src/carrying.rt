@@ -1,18 +1,13 @@
 // Carrying out the calls of a list, one after the other.
-ghost use mathlib.Core.List.{[], map};
-ghost use mathlib.Core.Path.{_≡_};
-ghost use Prim.Native.Nat.{_≤_};
-ghost use lib.ListN.{length, drop};
-ghost use Rattle·plan.specs.Faults.{chain-number, outcome};
-ghost use Rattle·plan.specs.Plans.{plan-scheme};
-ghost use Rattle·receiver.specs.Receivers.{view-of};
-ghost use Rattle·std.specs.Of.Vec.{vec-items, vec-cap};
-ghost use Rattle·replay·specs.Given.{given};
-ghost use Rattle·replay·specs.Ledger.{answer, answers as all-answers, after, after-all};
+ghost use Rattle.std.specs.Prelude.{◌≡◌, ◌≤◌, [], map, length, drop, vec_capacity};
+ghost use Rattle.plan.specs.Faults.{chain_number, outcome};
+ghost use Rattle.plan.specs.Plans.{plan_scheme};
+ghost use Rattle.receiver.specs.Receivers.{view_of};
+ghost use Rattle.replay.specs.Given.{given};
+ghost use Rattle.replay.specs.Ledger.{answer, answers as all-answers, after, after_all};
+
 use crate::call::Call;
-use crate::lending::blank_lent;
-use crate::lending::hear_lent;
-use crate::lending::note_lent;
+use crate::lending::{blank_lent, hear_lent, note_lent};
 use crate::looking::look_lent;
 use plan::ChainFault;
 use receiver::Receiver;
@@ -21,7 +16,7 @@ use scrambler::Scrambler;
 
 // The answer alone, without what was shown.
 fn answer_of<T: Copy>(shown: Result<T, ChainFault>) -> Result<(), ChainFault>
-    ensures { λ r. ⌜ outcome chain-number r ≡ outcome chain-number shown ⌝ }
+    ensures { outcome chain_number result ≡ outcome chain_number shown }
 {
     match shown {
         Ok(_) => Ok(()),
@@ -39,10 +34,10 @@ fn carry_out<S: Scrambler + Drop, K: Kind>(
     scores: &mut [K::Score],
     marks: &mut [u8],
 ) -> Result<(), ChainFault>
-    ensures answer { λ r. ⌜ outcome chain-number r ≡ answer (view-of meaning (now (receiver .entry))) (given (now (memory .entry)) (now (block .entry)) (now (scores .entry)) (now (marks .entry))) call ⌝ }
-    ensures after { λ _. ⌜ now (memory .exit) ≡ after (view-of meaning (now (receiver .entry))) (given (now (memory .entry)) (now (block .entry)) (now (scores .entry)) (now (marks .entry))) call (now (memory .entry)) ⌝ }
-    ensures rest { λ _. let b = plan-scheme (now (receiver .entry) .plan) .block in ⌜ drop b (now (block .exit)) ≡ drop b (now (block .entry)) ⌝ }
-    ensures kept { λ _. ⌜ view-of meaning (now (receiver .exit)) ≡ view-of meaning (now (receiver .entry)) ⌝ }
+    ensures answer { outcome chain_number result ≡ answer (view_of meaning receiver.old) (given memory.old block.old scores.old marks.old) call }
+    ensures after { memory.new ≡ after (view_of meaning receiver.old) (given memory.old block.old scores.old marks.old) call memory.old }
+    ensures rest { let b = (plan_scheme receiver.old.plan).block in drop b block.new ≡ drop b block.old }
+    ensures kept { view_of meaning receiver.new ≡ view_of meaning receiver.old }
 {
     match call {
         Call::Hear {
@@ -58,13 +53,7 @@ fn carry_out<S: Scrambler + Drop, K: Kind>(
         } => note_lent(receiver, memory, lent, location, value),
         Call::Blank { lent, place } => blank_lent(receiver, memory, lent, place),
         Call::Look { lent } => answer_of(look_lent(
-            receiver,
-            kind,
-            lent,
-            memory,
-            block,
-            scores,
-            marks,
+            receiver, kind, lent, memory, block, scores, marks,
         )),
     }
 }
@@ -80,12 +69,12 @@ pub(crate) fn run<S: Scrambler + Drop, K: Kind>(
     scores: &mut [K::Score],
     marks: &mut [u8],
 )
-    requires empty { ⌜ vec-items (now answers) ≡ [] ⌝ }
-    requires room { ⌜ length (now calls) ≤ vec-cap (now answers) ⌝ }
-    ensures answers { λ _. ⌜ map (outcome chain-number) (vec-items (now (answers .exit))) ≡ all-answers (view-of meaning (now (receiver .entry))) (given (now (memory .entry)) (now (block .entry)) (now (scores .entry)) (now (marks .entry))) (now (calls .entry)) ⌝ }
-    ensures after { λ _. ⌜ now (memory .exit) ≡ after-all (view-of meaning (now (receiver .entry))) (given (now (memory .entry)) (now (block .entry)) (now (scores .entry)) (now (marks .entry))) (now (calls .entry)) (now (memory .entry)) ⌝ }
-    ensures rest { λ _. let b = plan-scheme (now (receiver .entry) .plan) .block in ⌜ drop b (now (block .exit)) ≡ drop b (now (block .entry)) ⌝ }
-    ensures kept { λ _. ⌜ view-of meaning (now (receiver .exit)) ≡ view-of meaning (now (receiver .entry)) ⌝ }
+    requires empty { answers.old.items ≡ [] }
+    requires room { length calls.now ≤ vec_capacity answers.old }
+    ensures answers { map (outcome chain_number) answers.new.items ≡ all-answers (view_of meaning receiver.old) (given memory.old block.old scores.old marks.old) calls.now }
+    ensures after { memory.new ≡ after_all (view_of meaning receiver.old) (given memory.old block.old scores.old marks.old) calls.now memory.old }
+    ensures rest { let b = (plan_scheme receiver.old.plan).block in drop b block.new ≡ drop b block.old }
+    ensures kept { view_of meaning receiver.new ≡ view_of meaning receiver.old }
 {
     for call in calls {
         let answer = carry_out(receiver, kind, *call, memory, block, scores, marks);

@@ -1,14 +1,11 @@
 // Calls that are lent the first part of the memory: what they are lent, and at most what there is.
-ghost use mathlib.Core.Bool.{cond};
-ghost use mathlib.Core.Path.{_≡_};
-ghost use Prim.Native.Nat.{min};
-ghost use lib.ListN.{length};
-ghost use Rattle·plan.specs.Faults.{chain-number, outcome};
-ghost use Rattle·plan.specs.Plans.{plan-scheme};
-ghost use Rattle·receiver.specs.Calls.{hear-answer, note-answer, blank-answer};
-ghost use Rattle·receiver.specs.Receivers.{view-of};
-ghost use Rattle·receiver.specs.Values.{after-hear, after-note, after-blank};
-ghost use Rattle·std.specs.Results.{isOk};
+ghost use Rattle.std.specs.Prelude.{◌≡◌, min, length, is_ok, if◌then◌else◌};
+ghost use Rattle.plan.specs.Faults.{chain_number, outcome};
+ghost use Rattle.plan.specs.Plans.{plan_scheme};
+ghost use Rattle.receiver.specs.Calls.{hear_answer, note_answer, blank_answer};
+ghost use Rattle.receiver.specs.Receivers.{view_of};
+ghost use Rattle.receiver.specs.Values.{after_hear, after_note, after_blank};
+
 use plan::ChainFault;
 use receiver::Receiver;
 use scrambler::Scrambler;
@@ -21,9 +18,9 @@ pub(crate) fn hear_lent<S: Scrambler + Drop>(
     index: u8,
     weight: u16,
 ) -> Result<(), ChainFault>
-    ensures answer { λ r. ⌜ outcome chain-number r ≡ hear-answer (view-of meaning (now (receiver .entry))) (min lent (length (now (memory .entry)))) place index weight ⌝ }
-    ensures after { λ r. ⌜ now (memory .exit) ≡ cond (isOk r) (after-hear (view-of meaning (now (receiver .entry))) place index weight (now (memory .entry))) (now (memory .entry)) ⌝ }
-    ensures kept { λ _. ⌜ view-of meaning (now (receiver .exit)) ≡ view-of meaning (now (receiver .entry)) ⌝ }
+    ensures answer { outcome chain_number result ≡ hear_answer (view_of meaning receiver.old) (min lent (length memory.old)) place index weight }
+    ensures after { memory.new ≡ (if is_ok result then after_hear (view_of meaning receiver.old) place index weight memory.old else memory.old) }
+    ensures kept { view_of meaning receiver.new ≡ view_of meaning receiver.old }
 {
     let lent = lent.min(memory.len());
     receiver.hear(&mut memory[0..lent], place, index, weight)
@@ -36,9 +33,9 @@ pub(crate) fn note_lent<S: Scrambler + Drop>(
     location: usize,
     value: i16,
 ) -> Result<(), ChainFault>
-    ensures answer { λ r. ⌜ outcome chain-number r ≡ note-answer (plan-scheme (now (receiver .entry) .plan)) (min lent (length (now (memory .entry)))) location value ⌝ }
-    ensures after { λ r. ⌜ now (memory .exit) ≡ cond (isOk r) (after-note location value (now (memory .entry))) (now (memory .entry)) ⌝ }
-    ensures kept { λ _. ⌜ view-of meaning (now (receiver .exit)) ≡ view-of meaning (now (receiver .entry)) ⌝ }
+    ensures answer { outcome chain_number result ≡ note_answer (plan_scheme receiver.old.plan) (min lent (length memory.old)) location value }
+    ensures after { memory.new ≡ (if is_ok result then after_note location value memory.old else memory.old) }
+    ensures kept { view_of meaning receiver.new ≡ view_of meaning receiver.old }
 {
     let lent = lent.min(memory.len());
     receiver.note(&mut memory[0..lent], location, value)
@@ -50,9 +47,9 @@ pub(crate) fn blank_lent<S: Scrambler + Drop>(
     lent: usize,
     place: usize,
 ) -> Result<(), ChainFault>
-    ensures answer { λ r. ⌜ outcome chain-number r ≡ blank-answer (plan-scheme (now (receiver .entry) .plan)) (min lent (length (now (memory .entry)))) place ⌝ }
-    ensures after { λ r. ⌜ now (memory .exit) ≡ cond (isOk r) (after-blank (plan-scheme (now (receiver .entry) .plan)) place (now (memory .entry))) (now (memory .entry)) ⌝ }
-    ensures kept { λ _. ⌜ view-of meaning (now (receiver .exit)) ≡ view-of meaning (now (receiver .entry)) ⌝ }
+    ensures answer { outcome chain_number result ≡ blank_answer (plan_scheme receiver.old.plan) (min lent (length memory.old)) place }
+    ensures after { memory.new ≡ (if is_ok result then after_blank (plan_scheme receiver.old.plan) place memory.old else memory.old) }
+    ensures kept { view_of meaning receiver.new ≡ view_of meaning receiver.old }
 {
     let lent = lent.min(memory.len());
     receiver.blank(&mut memory[0..lent], place)

@@ -5,7 +5,5 @@ mod lending;
 mod looking;
 mod replaying;
 
-pub use call::Call;
-pub use call::Lent;
-pub use replaying::Replayed;
-pub use replaying::replay;
+pub use call::{Call, Lent};
+pub use replaying::{Replayed, replay};

@@ -1,17 +1,14 @@
 // A look that is lent the first part of each memory: what it is lent, and at most what there is.
-ghost use mathlib.Core.Bool.{cond};
-ghost use mathlib.Core.Path.{_≡_};
-ghost use lib.ListN.{take};
-ghost use Rattle·code.specs.Numbers.{bits-of};
-ghost use Rattle·plan.specs.Faults.{chain-number, outcome};
-ghost use Rattle·plan.specs.Plans.{plan-scheme};
-ghost use Rattle·plan.specs.Scheme.{sent-length};
-ghost use Rattle·score.specs.Blocks.{value-at};
-ghost use Rattle·search.specs.Looking.{Found, shown, search-answer};
-ghost use Rattle·std.specs.Results.{isOk};
-ghost use Rattle·std.specs.Vec.{made};
-ghost use Rattle·replay·specs.Given.{given};
-ghost use Rattle·replay·specs.Ledger.{lent-of};
+ghost use Rattle.std.specs.Prelude.{◌≡◌, take, is_ok, IfOk, if◌then◌else◌};
+ghost use Rattle.code.specs.Numbers.{bits_of};
+ghost use Rattle.plan.specs.Faults.{chain_number, outcome};
+ghost use Rattle.plan.specs.Plans.{plan_scheme};
+ghost use Rattle.plan.specs.Scheme.{sent_length};
+ghost use Rattle.score.specs.Blocks.{value_at};
+ghost use Rattle.search.specs.Looking.{Found, shown, search_answer};
+ghost use Rattle.replay.specs.Given.{given};
+ghost use Rattle.replay.specs.Ledger.{lent_of};
+
 use crate::call::Lent;
 use plan::ChainFault;
 use receiver::Receiver;
@@ -29,9 +26,9 @@ pub(crate) fn look_lent<'a, S: Scrambler + Drop, K: Kind>(
     scores: &mut [K::Score],
     marks: &mut [u8],
 ) -> Result<K::Score, ChainFault>
-    ensures answer { λ r. ⌜ outcome chain-number r ≡ search-answer (plan-scheme (now (receiver .entry) .plan)) (lent-of (given (now (memory .entry)) (now (block .entry)) (now (scores .entry)) (now (marks .entry))) lent) ⌝ }
-    ensures found { λ r. let k = K·Kind .scale (now (kind .entry)) in let s = plan-scheme (now (receiver .entry) .plan) in let v = value-at (take (sent-length s) (now (memory .entry))) in ⌜ made r (λ score. Found k s v (bits-of (now (block .exit))) score) ⌝ }
-    ensures block { λ r. let k = K·Kind .scale (now (kind .entry)) in let s = plan-scheme (now (receiver .entry) .plan) in let v = value-at (take (sent-length s) (now (memory .entry))) in ⌜ now (block .exit) ≡ cond (isOk r) (shown k s v (now (block .entry))) (now (block .entry)) ⌝ }
+    ensures answer { outcome chain_number result ≡ search_answer (plan_scheme receiver.now.plan) (lent_of (given memory.now block.old scores.old marks.old) lent) }
+    ensures found { let k = K.Kind.scale kind.now in let s = plan_scheme receiver.now.plan in let v = value_at (take (sent_length s) memory.now) in IfOk result (λ score. Found k s v (bits_of block.new) score) }
+    ensures block { let k = K.Kind.scale kind.now in let s = plan_scheme receiver.now.plan in let v = value_at (take (sent_length s) memory.now) in block.new ≡ (if is_ok result then shown k s v block.old else block.old) }
 {
     let half = scores.len() / 2;
     let (first, second) = scores.split_at_mut(half);

@@ -1,30 +1,21 @@
 // A whole list of calls, from the making of a receiver to the look after the last call.
-ghost use mathlib.Core.Bool.{true, false};
-ghost use mathlib.Core.List.{map};
-ghost use mathlib.Core.Logic.{_≢_};
-ghost use mathlib.Core.Path.{_≡_};
-ghost use lib.ListN.{length, take, drop};
-ghost use Rattle·code.specs.Numbers.{bits-of};
-ghost use Rattle·plan.specs.Faults.{chain-number, outcome};
-ghost use Rattle·plan.specs.Plans.{plan-scheme};
-ghost use Rattle·plan.specs.Scheme.{sent-length};
-ghost use Rattle·receiver.specs.Calls.{making-answer};
-ghost use Rattle·receiver.specs.Receivers.{view};
-ghost use Rattle·score.specs.Blocks.{value-at};
-ghost use Rattle·search.specs.Looking.{search-answer, shown};
-ghost use Rattle·std.specs.Of.Vec.{vec-items};
-ghost use Rattle·std.specs.Results.{isOk};
-ghost use Rattle·std.specs.Vec.{made};
-ghost use Rattle·replay·specs.Given.{given};
-ghost use Rattle·replay·specs.Ledger.{answers, ledger};
-ghost use Rattle·replay·specs.Promise.{Promise};
-use crate::call::Call;
-use crate::call::Lent;
+ghost use Rattle.std.specs.Prelude.{◌≡◌, true, false, ◌≢◌, map, length, take, drop, is_ok, IfOk};
+ghost use Rattle.code.specs.Numbers.{bits_of};
+ghost use Rattle.plan.specs.Faults.{chain_number, outcome};
+ghost use Rattle.plan.specs.Plans.{plan_scheme};
+ghost use Rattle.plan.specs.Scheme.{sent_length};
+ghost use Rattle.receiver.specs.Calls.{making_answer};
+ghost use Rattle.receiver.specs.Receivers.{view};
+ghost use Rattle.score.specs.Blocks.{value_at};
+ghost use Rattle.search.specs.Looking.{search_answer, shown};
+ghost use Rattle.replay.specs.Given.{given};
+ghost use Rattle.replay.specs.Ledger.{answers, ledger};
+ghost use Rattle.replay.specs.Promise.{Promise};
+
+use crate::call::{Call, Lent};
 use crate::carrying::run;
 use crate::looking::look_lent;
-use plan::ChainFault;
-use plan::ChainFromAlloc;
-use plan::Plan;
+use plan::{ChainFault, Plan};
 use receiver::Receiver;
 use score::Kind;
 use scrambler::Scrambler;
@@ -50,18 +41,18 @@ pub fn replay<S: Scrambler + Drop, K: Kind>(
     scores: &mut [K::Score],
     marks: &mut [u8],
 ) -> Result<Replayed<K::Score>, ChainFault>
-    ensures answer { λ r. ⌜ (outcome chain-number r ≢ 255 → outcome chain-number r ≡ making-answer (view plan (meaning scrambler)) (length (now (memory .entry)))) ⌝ }
-    ensures answers { λ r. let v = view plan (meaning scrambler) in let w = given (now (memory .entry)) (now (block .entry)) (now (scores .entry)) (now (marks .entry)) in ⌜ made r (λ x. map (outcome chain-number) (vec-items (x .answers)) ≡ answers v w (now (calls .entry))) ⌝ }
-    ensures looked { λ r. let w = given (now (memory .entry)) (now (block .entry)) (now (scores .entry)) (now (marks .entry)) in ⌜ made r (λ x. outcome chain-number (x .shown) ≡ search-answer (plan-scheme plan) w) ⌝ }
-    ensures promise { λ r. let v = view plan (meaning scrambler) in let w = given (now (memory .entry)) (now (block .entry)) (now (scores .entry)) (now (marks .entry)) in ⌜ made r (λ x. made (x .shown) (λ score. Promise (K·Kind .scale (now (kind .entry))) v w (now (calls .entry)) (bits-of (now (block .exit))) score)) ⌝ }
-    ensures written { λ r. let s = plan-scheme plan in let w = given (now (memory .entry)) (now (block .entry)) (now (scores .entry)) (now (marks .entry)) in ⌜ made r (λ x. isOk (x .shown) ≡ true → now (block .exit) ≡ shown (K·Kind .scale (now (kind .entry))) s (value-at (ledger (view plan (meaning scrambler)) w (now (calls .entry)))) (now (block .entry))) ⌝ }
-    ensures values { λ r. let v = view plan (meaning scrambler) in let w = given (now (memory .entry)) (now (block .entry)) (now (scores .entry)) (now (marks .entry)) in ⌜ (isOk r ≡ true → take (sent-length (plan-scheme plan)) (now (memory .exit)) ≡ ledger v w (now (calls .entry))) ⌝ }
-    ensures rest { λ _. let n = sent-length (plan-scheme plan) in ⌜ drop n (now (memory .exit)) ≡ drop n (now (memory .entry)) ⌝ }
-    ensures past { λ _. let b = plan-scheme plan .block in ⌜ drop b (now (block .exit)) ≡ drop b (now (block .entry)) ⌝ }
-    ensures memory { λ r. ⌜ (isOk r ≡ false → now (memory .exit) ≡ now (memory .entry)) ⌝ }
-    ensures block { λ r. ⌜ (isOk r ≡ false → now (block .exit) ≡ now (block .entry)) ⌝ }
-    ensures scores { λ r. ⌜ (isOk r ≡ false → now (scores .exit) ≡ now (scores .entry)) ⌝ }
-    ensures marks { λ r. ⌜ (isOk r ≡ false → now (marks .exit) ≡ now (marks .entry)) ⌝ }
+    ensures answer { outcome chain_number result ≢ 255 → outcome chain_number result ≡ making_answer (view plan (meaning scrambler)) (length memory.old) }
+    ensures answers { let v = view plan (meaning scrambler) in let w = given memory.old block.old scores.old marks.old in IfOk result (λ x. map (outcome chain_number) x.answers.items ≡ answers v w calls.now) }
+    ensures looked { let w = given memory.old block.old scores.old marks.old in IfOk result (λ x. outcome chain_number x.shown ≡ search_answer (plan_scheme plan) w) }
+    ensures promise { let v = view plan (meaning scrambler) in let w = given memory.old block.old scores.old marks.old in IfOk result (λ x. IfOk x.shown (λ score. Promise (K.Kind.scale kind.now) v w calls.now (bits_of block.new) score)) }
+    ensures written { let s = plan_scheme plan in let w = given memory.old block.old scores.old marks.old in IfOk result (λ x. is_ok x.shown ≡ true → block.new ≡ shown (K.Kind.scale kind.now) s (value_at (ledger (view plan (meaning scrambler)) w calls.now)) block.old) }
+    ensures values { let v = view plan (meaning scrambler) in let w = given memory.old block.old scores.old marks.old in (is_ok result ≡ true → take (sent_length (plan_scheme plan)) memory.new ≡ ledger v w calls.now) }
+    ensures rest { let n = sent_length (plan_scheme plan) in drop n memory.new ≡ drop n memory.old }
+    ensures past { let b = (plan_scheme plan).block in drop b block.new ≡ drop b block.old }
+    ensures memory { is_ok result ≡ false → memory.new ≡ memory.old }
+    ensures block { is_ok result ≡ false → block.new ≡ block.old }
+    ensures scores { is_ok result ≡ false → scores.new ≡ scores.old }
+    ensures marks { is_ok result ≡ false → marks.new ≡ marks.old }
 {
     let mut answers = Vec::with_capacity(heap, calls.len())?;
     let mut receiver = Receiver::new(plan, scrambler, memory)?;

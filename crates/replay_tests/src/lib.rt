@@ -1,17 +1,8 @@
 // A list of calls on a small plan, run.
-use plan::ChainFault;
-use plan::ChainFromPlan;
-use plan::ChainFromRefused;
-use plan::Parts;
-use plan::Plan;
-use replay::Call;
-use replay::Lent;
-use replay::Replayed;
-use replay::replay;
+use plan::{ChainFault, Parts, Plan};
+use replay::{Call, Lent, Replayed, replay};
 use score::Total;
-use score::TotalKind;
 use scrambler::Table;
-use scrambler::TableScrambler;
 use std::alloc::Global;
 
 // A plan of nine bits that sends twelve, three to a symbol.
@@ -55,7 +46,7 @@ fn carry(
 #[cfg(test)]
 mod tests {
     use super::*;
-    use std::test::*;
+    use std::test::Fail;
 
     fn hear(place: usize, index: u8) -> Call {
         Call::Hear {
@@ -77,7 +68,7 @@ mod tests {
 
     // The block 100000000 goes on the air as 6, 5, 3, 3; what is noted before is heard over, a refused call changes nothing.
     #[test]
-    fn comes_back(rt: LibcRuntime) -> Result<(), Fail> {
+    fn comes_back(rt: HostRuntime) -> Result<(), Fail> {
         let mut memory = [9; 13];
         let mut block = [7; 10];
         let short = Lent {
@@ -105,17 +96,18 @@ mod tests {
             return Err(Fail::new("refused"));
         };
         let answers = done.answers.as_slice();
-        check_eq(answers.len(), 8)?;
-        check_eq(number(answers[0]), 0)?;
-        check_eq(number(answers[4]), 0)?;
-        check_eq(number(answers[5]), 14)?;
-        check_eq(number(answers[6]), 13)?;
-        check_eq(number(answers[7]), 13)?;
+        assert_eq!(rt; answers.len(), 8);
+        assert_eq!(rt; number(answers[0]), 0);
+        assert_eq!(rt; number(answers[4]), 0);
+        assert_eq!(rt; number(answers[5]), 14);
+        assert_eq!(rt; number(answers[6]), 13);
+        assert_eq!(rt; number(answers[7]), 13);
         let Ok(score) = done.shown else {
             return Err(Fail::new("not shown"));
         };
-        check_eq(score, 0)?;
-        check_eq(memory[12], 9)?;
-        check_eq(block, [1, 0, 0, 0, 0, 0, 0, 0, 0, 7])
+        assert_eq!(rt; score, 0);
+        assert_eq!(rt; memory[12], 9);
+        assert_eq!(rt; block, [1, 0, 0, 0, 0, 0, 0, 0, 0, 7]);
+        Ok(())
     }
 }

@@ -1,7 +1,7 @@
 -- The pattern that the code holds by its mask.
 -- Assumes nothing.
-use Rattle·rows·specs.declared.pattern.Pattern.{Pattern}
-use Rattle·rows·specs.Patterns.{Puncture}
+use Rattle.rows.specs.declared.pattern.Pattern.{Pattern}
+use Rattle.rows.specs.Patterns.{Puncture}
 
-abbrev pub puncture-of : Pattern → Puncture
-puncture-of p = record { first = p .first .now; second = p .second .now; repeats = p .repeats }
+abbrev pub puncture_of : Pattern → Puncture
+puncture_of p = record { first = p.first.now; second = p.second.now; repeats = p.repeats }

@@ -1,13 +1,8 @@
 -- How each code rate is had from the pairs of the mother code.
 -- Assumes nothing.
-use mathlib.Core.Bool.{cond}
-use mathlib.Core.List.{List, [], _∷_, _++_}
-use Prim.Native.Nat.{ℕ, suc, _+_, _*_, _/_}
-use lib.Dec.{eqb}
-use lib.ListN.{length}
-use lib.Chars.{codes}
-use Rattle·rows·specs.declared.rate.Rate.{Rate}
-use Rattle·rows·specs.declared.rate.Rate.the-variants.{NineTenths, EightNinths, FiveSixths, FourFifths, ThreeQuarters, TwoThirds, NineSixteenths, Half, Third, Quarter, Sixth, Eighth, Twelfth, Sixteenth}
+use Rattle.std.specs.Prelude.{ℕ, suc, ◌+◌, ◌*◌, ◌/◌, cond, List, [], ◌∷◌, ◌++◌, length, codes, ◌==◌}
+use Rattle.rows.specs.declared.rate.Rate.{Rate}
+use Rattle.rows.specs.declared.rate.Rate.TheVariants.{NineTenths, EightNinths, FiveSixths, FourFifths, ThreeQuarters, TwoThirds, NineSixteenths, Half, Third, Quarter, Sixth, Eighth, Twelfth, Sixteenth}
 
 -- Each pair comes so many times, and a mask is laid over the pairs so repeated. Its first row has a 1 for each first bit
 -- that is sent, its second row for each second bit, in the order of time.
@@ -51,26 +46,26 @@ nine Twelfth = record { first = codes "111111"; second = codes "111111"; repeats
 nine Sixteenth = record { first = codes "11111111"; second = codes "11111111"; repeats = 8 }
 
 abbrev pub puncture : Rate → ℕ → Puncture
-puncture rate constraint = cond (eqb constraint 7) (seven rate) (nine rate)
+puncture rate constraint = cond (constraint == 7) (seven rate) (nine rate)
 
 -- the entry, where the mask has a 1 for it
-abbrev pub if-sent : ℕ → ℕ → List ℕ
-if-sent digit entry = cond (eqb digit 49) (entry ∷ []) []
+abbrev pub if_sent : ℕ → ℕ → List ℕ
+if_sent digit entry = cond (digit == 49) (entry ∷ []) []
 
 -- what is sent of one column, whose digits are these: the first bit of its pair, then the second
-abbrev pub column-listed : ℕ → ℕ → ℕ → ℕ → List ℕ
-column-listed repeats column first second = if-sent first (2 * (column / repeats)) ++ if-sent second (2 * (column / repeats) + 1)
+abbrev pub column_listed : ℕ → ℕ → ℕ → ℕ → List ℕ
+column_listed repeats column first second = if_sent first (2 * (column / repeats)) ++ if_sent second (2 * (column / repeats) + 1)
 
 -- what is sent of the columns from the given one on
 abbrev pub listed : ℕ → ℕ → List ℕ → List ℕ → List ℕ
 listed repeats column [] second = []
 listed repeats column (f ∷ first) [] = []
-listed repeats column (f ∷ first) (s ∷ second) = column-listed repeats column f s ++ listed repeats (column + 1) first second
+listed repeats column (f ∷ first) (s ∷ second) = column_listed repeats column f s ++ listed repeats (column + 1) first second
 
 -- the send list of a pattern
-abbrev pub send-list : Puncture → List ℕ
-send-list p = listed (p .repeats) 0 (p .first) (p .second)
+abbrev pub send_list : Puncture → List ℕ
+send_list p = listed p.repeats 0 p.first p.second
 
 -- the period of a pattern: how many pairs its mask covers
 abbrev pub period : Puncture → ℕ
-period p = length (p .first) / p .repeats
+period p = length p.first / p.repeats

@@ -1,11 +1,8 @@
 -- The code rates as fractions.
 -- Assumes nothing.
-use mathlib.Core.List.{List, _∷_, _++_}
-use Prim.Native.Nat.{ℕ}
-use lib.Chars.{codes}
-use Rattle·std.specs.Written.{decimal}
-use Rattle·rows·specs.declared.rate.Rate.{Rate}
-use Rattle·rows·specs.declared.rate.Rate.the-variants.{NineTenths, EightNinths, FiveSixths, FourFifths, ThreeQuarters, TwoThirds, NineSixteenths, Half, Third, Quarter, Sixth, Eighth, Twelfth, Sixteenth}
+use Rattle.std.specs.Prelude.{ℕ, List, ◌∷◌, ◌++◌, codes, decimal}
+use Rattle.rows.specs.declared.rate.Rate.{Rate}
+use Rattle.rows.specs.declared.rate.Rate.TheVariants.{NineTenths, EightNinths, FiveSixths, FourFifths, ThreeQuarters, TwoThirds, NineSixteenths, Half, Third, Quarter, Sixth, Eighth, Twelfth, Sixteenth}
 
 -- for so many bits of the block, so many are sent
 abbrev pub ratio : Rate → ℕ × ℕ
@@ -26,4 +23,4 @@ ratio Sixteenth = (1, 16)
 
 -- how a rate is written
 abbrev pub fraction : Rate → List ℕ
-fraction rate = decimal (ratio rate .0) ++ (codes "/" ++ decimal (ratio rate .1))
+fraction rate = decimal (ratio rate).0 ++ (codes "/" ++ decimal (ratio rate).1)

@@ -1,17 +1,14 @@
 -- The standard's table, a list for each bandwidth: for each waveform from 1 on its code rate, and then for the
 -- interleavers ultra short, short, medium and long the frames, the bits, the bits of the block and the increment.
 -- Assumes nothing.
-use mathlib.Core.List.{List, [], _∷_}
-use Prim.Native.Nat.{ℕ}
-use Rattle·std.specs.declared.option.Option.{Option}
-use Rattle·std.specs.declared.option.Option.the-variants.{Some, None}
-use Rattle·rows·specs.declared.rate.Rate.{Rate}
-use Rattle·rows·specs.declared.rate.Rate.the-variants.{NineTenths, EightNinths, FiveSixths, FourFifths, ThreeQuarters, TwoThirds, NineSixteenths, Half, Third, Quarter, Sixth, Eighth, Twelfth, Sixteenth}
-use Rattle·rows·specs.declared.table.Setting.{Setting}
+use Rattle.std.specs.Prelude.{ℕ, List, [], ◌∷◌, Some, None, Option}
+use Rattle.rows.specs.declared.rate.Rate.{Rate}
+use Rattle.rows.specs.declared.rate.Rate.TheVariants.{NineTenths, EightNinths, FiveSixths, FourFifths, ThreeQuarters, TwoThirds, NineSixteenths, Half, Third, Quarter, Sixth, Eighth, Twelfth, Sixteenth}
+use Rattle.rows.specs.declared.table.Setting.{Setting}
 
 -- waveforms 1 to 13 at 3 kHz
-abbrev pub khz-3 : List (Option Setting)
-khz-3 =
+abbrev pub khz_3 : List (Option Setting)
+khz_3 =
     Some (Eighth, (4, 192, 24, 25), (16, 768, 96, 97), (64, 3072, 384, 385), (256, 12288, 1536, 1543)) ∷
     Some (Quarter, (4, 192, 48, 25), (16, 768, 192, 97), (64, 3072, 768, 385), (256, 12288, 3072, 1543)) ∷
     Some (Third, (2, 192, 64, 25), (8, 768, 256, 97), (32, 3072, 1024, 385), (128, 12288, 4096, 1549)) ∷
@@ -28,8 +25,8 @@ khz-3 =
     []
 
 -- waveforms 1 to 13 at 6 kHz
-abbrev pub khz-6 : List (Option Setting)
-khz-6 =
+abbrev pub khz_6 : List (Option Setting)
+khz_6 =
     Some (Eighth, (4, 384, 48, 49), (16, 1536, 192, 193), (64, 6144, 768, 769), (256, 24576, 3072, 3085)) ∷
     Some (Quarter, (4, 384, 96, 49), (16, 1536, 384, 193), (64, 6144, 1536, 769), (256, 24576, 6144, 3085)) ∷
     Some (Third, (2, 408, 136, 53), (8, 1632, 544, 205), (32, 6528, 2176, 817), (128, 26112, 8704, 3293)) ∷
@@ -46,8 +43,8 @@ khz-6 =
     []
 
 -- waveforms 1 to 13 at 9 kHz
-abbrev pub khz-9 : List (Option Setting)
-khz-9 =
+abbrev pub khz_9 : List (Option Setting)
+khz_9 =
     Some (Eighth, (2, 576, 72, 73), (8, 2304, 288, 289), (32, 9216, 1152, 1153), (128, 36864, 4608, 4645)) ∷
     Some (Quarter, (2, 576, 144, 73), (8, 2304, 576, 289), (32, 9216, 2304, 1153), (128, 36864, 9216, 4645)) ∷
     Some (Half, (2, 576, 288, 73), (8, 2304, 1152, 289), (32, 9216, 4608, 1153), (128, 36864, 18432, 4645)) ∷
@@ -64,8 +61,8 @@ khz-9 =
     []
 
 -- waveforms 1 to 13 at 12 kHz
-abbrev pub khz-12 : List (Option Setting)
-khz-12 =
+abbrev pub khz_12 : List (Option Setting)
+khz_12 =
     Some (Eighth, (3, 576, 72, 73), (12, 2304, 288, 289), (48, 9216, 1152, 1153), (192, 36864, 4608, 4633)) ∷
     Some (Quarter, (3, 576, 144, 73), (12, 2304, 576, 289), (48, 9216, 2304, 1153), (192, 36864, 9216, 4633)) ∷
     Some (Third, (2, 768, 256, 97), (8, 3072, 1024, 385), (32, 12288, 4096, 1537), (128, 49152, 16384, 6193)) ∷
@@ -82,8 +79,8 @@ khz-12 =
     []
 
 -- waveforms 1 to 13 at 15 kHz
-abbrev pub khz-15 : List (Option Setting)
-khz-15 =
+abbrev pub khz_15 : List (Option Setting)
+khz_15 =
     Some (Twelfth, (3, 864, 72, 109), (12, 3456, 288, 433), (48, 13824, 1152, 1729), (192, 55296, 4608, 6949)) ∷
     Some (Sixth, (3, 864, 144, 109), (12, 3456, 576, 433), (48, 13824, 2304, 1729), (192, 55296, 9216, 6949)) ∷
     Some (Third, (3, 864, 288, 109), (12, 3456, 1152, 433), (48, 13824, 4608, 1729), (192, 55296, 18432, 6949)) ∷
@@ -100,8 +97,8 @@ khz-15 =
     []
 
 -- waveforms 1 to 13 at 18 kHz
-abbrev pub khz-18 : List (Option Setting)
-khz-18 =
+abbrev pub khz_18 : List (Option Setting)
+khz_18 =
     Some (Eighth, (3, 1344, 168, 169), (12, 5376, 672, 673), (48, 21504, 2688, 2689), (192, 86016, 10752, 10811)) ∷
     Some (Quarter, (3, 1344, 336, 169), (12, 5376, 1344, 673), (48, 21504, 5376, 2689), (192, 86016, 21504, 10811)) ∷
     Some (Half, (3, 1344, 672, 169), (12, 5376, 2688, 673), (48, 21504, 10752, 2689), (192, 86016, 43008, 10811)) ∷
@@ -118,8 +115,8 @@ khz-18 =
     []
 
 -- waveforms 1 to 13 at 21 kHz
-abbrev pub khz-21 : List (Option Setting)
-khz-21 =
+abbrev pub khz_21 : List (Option Setting)
+khz_21 =
     Some (Sixteenth, (4, 1280, 80, 161), (16, 5120, 320, 641), (64, 20480, 1280, 2561), (256, 81920, 5120, 10281)) ∷
     Some (Eighth, (4, 1280, 160, 161), (16, 5120, 640, 641), (64, 20480, 2560, 2561), (256, 81920, 10240, 10281)) ∷
     Some (Quarter, (4, 1280, 320, 161), (16, 5120, 1280, 641), (64, 20480, 5120, 2561), (256, 81920, 20480, 10281)) ∷
@@ -136,8 +133,8 @@ khz-21 =
     []
 
 -- waveforms 1 to 13 at 24 kHz
-abbrev pub khz-24 : List (Option Setting)
-khz-24 =
+abbrev pub khz_24 : List (Option Setting)
+khz_24 =
     Some (Eighth, (4, 1088, 136, 137), (16, 4352, 544, 545), (64, 17408, 2176, 2177), (256, 69632, 8704, 8739)) ∷
     Some (Quarter, (4, 1088, 272, 137), (16, 4352, 1088, 545), (64, 17408, 4352, 2177), (256, 69632, 17408, 8739)) ∷
     Some (Third, (2, 1632, 544, 205), (8, 6528, 2176, 817), (32, 26112, 8704, 3265), (128, 104448, 34816, 13159)) ∷
@@ -154,8 +151,8 @@ khz-24 =
     []
 
 -- waveforms 1 to 13 at 30 kHz
-abbrev pub khz-30 : List (Option Setting)
-khz-30 =
+abbrev pub khz_30 : List (Option Setting)
+khz_30 =
     Some (Twelfth, (3, 1728, 144, 275), (12, 6912, 576, 1259), (48, 27648, 2304, 4207), (192, 110592, 9216, 15445)) ∷
     Some (Sixth, (3, 1728, 288, 275), (12, 6912, 1152, 1259), (48, 27648, 4608, 4207), (192, 110592, 18432, 15445)) ∷
     Some (Third, (3, 1728, 576, 275), (12, 6912, 2304, 1259), (48, 27648, 9216, 4207), (192, 110592, 36864, 15445)) ∷
@@ -172,8 +169,8 @@ khz-30 =
     []
 
 -- waveforms 1 to 13 at 36 kHz
-abbrev pub khz-36 : List (Option Setting)
-khz-36 =
+abbrev pub khz_36 : List (Option Setting)
+khz_36 =
     Some (Eighth, (2, 2304, 288, 901), (8, 9216, 1152, 1577), (32, 36864, 4608, 11843), (128, 147456, 18432, 22595)) ∷
     Some (Quarter, (2, 2304, 576, 901), (8, 9216, 2304, 1577), (32, 36864, 9216, 11843), (128, 147456, 36864, 22595)) ∷
     Some (Half, (2, 2304, 1152, 901), (8, 9216, 4608, 1577), (32, 36864, 18432, 11843), (128, 147456, 73728, 22595)) ∷
@@ -190,8 +187,8 @@ khz-36 =
     []
 
 -- waveforms 1 to 13 at 42 kHz
-abbrev pub khz-42 : List (Option Setting)
-khz-42 =
+abbrev pub khz_42 : List (Option Setting)
+khz_42 =
     Some (Eighth, (3, 2304, 288, 1001), (12, 9216, 1152, 1687), (48, 36864, 4608, 5867), (192, 147456, 18432, 30619)) ∷
     Some (Quarter, (3, 2304, 576, 1001), (12, 9216, 2304, 1687), (48, 36864, 9216, 5867), (192, 147456, 36864, 30619)) ∷
     Some (Half, (3, 2304, 1152, 1001), (12, 9216, 4608, 1687), (48, 36864, 18432, 5867), (192, 147456, 73728, 30619)) ∷
@@ -208,8 +205,8 @@ khz-42 =
     []
 
 -- waveforms 1 to 13 at 48 kHz
-abbrev pub khz-48 : List (Option Setting)
-khz-48 =
+abbrev pub khz_48 : List (Option Setting)
+khz_48 =
     Some (Eighth, (3, 1536, 192, 943), (18, 9216, 1152, 1735), (72, 36864, 4608, 6805), (288, 147456, 18432, 14425)) ∷
     Some (Quarter, (3, 1536, 384, 943), (18, 9216, 2304, 1735), (72, 36864, 9216, 6805), (288, 147456, 36864, 14425)) ∷
     Some (Half, (3, 1536, 768, 943), (18, 9216, 4608, 1735), (72, 36864, 18432, 6805), (288, 147456, 73728, 14425)) ∷
@@ -231,4 +228,4 @@ bandwidths = 3 ∷ 6 ∷ 9 ∷ 12 ∷ 15 ∷ 18 ∷ 21 ∷ 24 ∷ 30 ∷ 36 ∷ 
 
 -- the lists of the bandwidths, in their order
 unfoldable pub table : List (List (Option Setting))
-table = khz-3 ∷ khz-6 ∷ khz-9 ∷ khz-12 ∷ khz-15 ∷ khz-18 ∷ khz-21 ∷ khz-24 ∷ khz-30 ∷ khz-36 ∷ khz-42 ∷ khz-48 ∷ []
+table = khz_3 ∷ khz_6 ∷ khz_9 ∷ khz_12 ∷ khz_15 ∷ khz_18 ∷ khz_21 ∷ khz_24 ∷ khz_30 ∷ khz_36 ∷ khz_42 ∷ khz_48 ∷ []

@@ -6,6 +6,4 @@ mod sending;
 mod table;
 
 pub use rate::Rate;
-pub use rate::RateDisplay;
-pub use row::Entry;
-pub use row::Row;
+pub use row::{Entry, Row};

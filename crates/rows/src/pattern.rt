@@ -1,8 +1,8 @@
 // How a rate is had from the mother code: each pair of coded bits is repeated, and a mask then says what is sent.
-ghost use mathlib.Core.Path.{_≡_};
-ghost use Prim.Native.Nat.{_<_};
-ghost use Rattle·rows·specs.Patterns.{seven, nine, puncture, period};
-ghost use Rattle·rows·specs.Masks.{puncture-of};
+ghost use Rattle.std.specs.Prelude.{◌≡◌, ◌<◌};
+ghost use Rattle.rows.specs.Patterns.{seven, nine, puncture, period};
+ghost use Rattle.rows.specs.Masks.{puncture_of};
+
 use crate::rate::Rate;
 
 #[derive(Clone, Copy)]
@@ -17,7 +17,7 @@ pub(crate) struct Pattern {
 
 // The two rows of a mask, laid over pairs that come so often each.
 fn mask(first: &'static [u8], second: &'static [u8], repeats: usize) -> Pattern
-    ensures { λ r. ⌜ puncture-of r ≡ record { first = now (first .entry); second = now (second .entry); repeats = repeats } ⌝ }
+    ensures { puncture_of result ≡ record { first = first.entry.now; second = second.now; repeats = repeats } }
 {
     Pattern {
         first,
@@ -28,7 +28,7 @@ fn mask(first: &'static [u8], second: &'static [u8], repeats: usize) -> Pattern
 
 // The patterns of constraint length 7.
 fn pattern_seven(rate: Rate) -> Pattern
-    ensures { λ r. ⌜ puncture-of r ≡ seven rate ⌝ }
+    ensures { puncture_of result ≡ seven rate }
 {
     match rate {
         Rate::NineTenths => mask(b"111101110", b"100010001", 1),
@@ -50,7 +50,7 @@ fn pattern_seven(rate: Rate) -> Pattern
 
 // The patterns of constraint length 9: five masks differ from those of 7.
 fn pattern_nine(rate: Rate) -> Pattern
-    ensures { λ r. ⌜ puncture-of r ≡ nine rate ⌝ }
+    ensures { puncture_of result ≡ nine rate }
 {
     match rate {
         Rate::NineTenths => mask(b"111000101", b"100111010", 1),
@@ -65,8 +65,8 @@ fn pattern_nine(rate: Rate) -> Pattern
 impl Pattern {
     // How many pairs the mask covers.
     pub(crate) fn period(self) -> usize
-        requires { ⌜ 0 < self .repeats ⌝ }
-        ensures { λ r. ⌜ r ≡ period (puncture-of self) ⌝ }
+        requires { 0 < self.repeats }
+        ensures { result ≡ period (puncture_of self) }
     {
         self.first.len() / self.repeats
     }
@@ -74,7 +74,7 @@ impl Pattern {
 
 // The pattern of a rate for constraint length 7, else for 9.
 pub(crate) fn pattern_of(rate: Rate, constraint: usize) -> Pattern
-    ensures { λ r. ⌜ puncture-of r ≡ puncture rate constraint ⌝ }
+    ensures { puncture_of result ≡ puncture rate constraint }
 {
     if constraint == 7 {
         pattern_seven(rate)

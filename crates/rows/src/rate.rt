@@ -1,7 +1,7 @@
 // The code rates of the standard's waveforms.
-ghost use mathlib.Core.Path.{_≡_};
-ghost use Rattle·rows·specs.Ratios.{ratio, fraction};
-ghost use Rattle·std.specs.declared.option.Option.the-variants.{Some};
+ghost use Rattle.std.specs.Prelude.{◌≡◌, Some};
+ghost use Rattle.rows.specs.Ratios.{ratio, fraction};
+
 use std::fmt;
 
 #[derive(Clone, Copy, Debug, PartialEq, Eq)]
@@ -25,7 +25,7 @@ pub enum Rate {
 impl Rate {
     // For so many bits of the block, so many are sent.
     fn ratio(self) -> (u8, u8)
-        ensures { λ r. ⌜ r ≡ ratio self ⌝ }
+        ensures { result ≡ ratio self }
     {
         match self {
             Rate::NineTenths => (9, 10),
@@ -46,8 +46,8 @@ impl Rate {
     }
 }
 
-pub impl fmt::Display for Rate as RateDisplay {
-    ghost shown = { λ rate. Some (fraction rate) };
+impl fmt::Display for Rate {
+    ghost output = { λ rate. Some (fraction rate) };
 
     fn fmt<W: fmt::Write>(&self, f: &mut fmt::Formatter<W>) -> fmt::Result {
         let (bits, sent) = self.ratio();

@@ -1,10 +1,7 @@
 // The standard's table: for each bandwidth and waveform the code rate and the four interleavers.
-ghost use mathlib.Core.Path.{_≡_};
-ghost use lib.ListN.{getD};
-ghost use mathlib.Core.List.{[]};
-ghost use Prim.Native.Nat.{_<_};
-ghost use Rattle·std.specs.declared.option.Option.the-variants.{None};
-ghost use Rattle·rows·specs.Table.{table};
+ghost use Rattle.std.specs.Prelude.{◌≡◌, ◌<◌, [], None, slice_index_or};
+ghost use Rattle.rows.specs.Table.{table};
+
 use crate::rate::Rate;
 
 // An interleaver: its frames, its bits, the bits of its block and its increment.
@@ -1082,8 +1079,8 @@ static TABLE: [[Option<Setting>; 13]; 12] = [
 
 // What the table has at these places.
 pub(crate) fn printed(band: usize, place: usize) -> Option<Setting>
-    requires { ⌜ band < 12 ⌝ ∗ ⌜ place < 13 ⌝ }
-    ensures { λ r. ⌜ r ≡ getD (getD table band []) place None ⌝ }
+    requires { (band < 12) × (place < 13) }
+    ensures { result ≡ slice_index_or (slice_index_or table band []) place None }
 {
     TABLE[band][place]
 }

@@ -1,9 +1,8 @@
 // What is answered to numbers that the standard does not have, and to one row that it has.
-use plan::ChainFaultDisplay;
 use rows::Row;
 use std::io;
 
-pub(crate) fn print_all(rt: &LibcRuntime) -> io::Result<()> {
+pub(crate) fn print_all(rt: &HostRuntime) -> io::Result<()> {
     for (bandwidth, waveform, interleaver, constraint) in [
         (18, 4, 0, 7),
         (6, 13, 0, 9),
@@ -13,10 +12,7 @@ pub(crate) fn print_all(rt: &LibcRuntime) -> io::Result<()> {
         (24, 1, 0, 8),
         (24, 1, 0, 9),
     ] {
-        print!(
-            rt,
-            "{bandwidth} {waveform} {interleaver} with {constraint}: "
-        )?;
+        print!(rt; "{bandwidth} {waveform} {interleaver} with {constraint}: ")?;
         print_answer(
             rt,
             Row {
@@ -30,14 +26,14 @@ pub(crate) fn print_all(rt: &LibcRuntime) -> io::Result<()> {
     Ok(())
 }
 
-fn print_answer(rt: &LibcRuntime, row: Row, constraint: usize) -> io::Result<()> {
+fn print_answer(rt: &HostRuntime, row: Row, constraint: usize) -> io::Result<()> {
     match row.plan(rt.alloc(), constraint) {
         Ok(plan) => {
             let block = plan.parts().block_length;
             let sent = plan.sent_length();
             let frame = plan.parts().frame_length;
-            println!(rt, "block {block}, sent {sent}, frame {frame}")
+            println!(rt; "block {block}, sent {sent}, frame {frame}")
         }
-        Err(fault) => println!(rt, "{fault}"),
+        Err(fault) => println!(rt; "{fault}"),
     }
 }

@@ -1,7 +1,5 @@
 // A block of lines for each bandwidth: its waveforms, and what its columns add up to.
-use rows::Entry;
-use rows::RateDisplay;
-use rows::Row;
+use rows::{Entry, Row};
 use std::io;
 
 // What the columns of a bandwidth's table add up to.
@@ -35,7 +33,7 @@ impl Sums {
 }
 
 // Every bandwidth below 64 kHz that has a row.
-pub fn print_bands(rt: &LibcRuntime) -> io::Result<()> {
+pub fn print_bands(rt: &HostRuntime) -> io::Result<()> {
     for bandwidth in 0..64 {
         if rows_of(bandwidth) > 0 {
             print_band(rt, bandwidth)?;
@@ -53,7 +51,9 @@ fn rows_of(bandwidth: usize) -> usize {
                 bandwidth,
                 waveform,
                 interleaver,
-            }).entry() {
+            })
+            .entry()
+            {
                 rows = rows.saturating_add(1);
             }
         }
@@ -61,9 +61,9 @@ fn rows_of(bandwidth: usize) -> usize {
     rows
 }
 
-fn print_band(rt: &LibcRuntime, bandwidth: usize) -> io::Result<()> {
+fn print_band(rt: &HostRuntime, bandwidth: usize) -> io::Result<()> {
     let all = rows_of(bandwidth);
-    println!(rt, "{bandwidth} kHz, {all} rows")?;
+    println!(rt; "{bandwidth} kHz, {all} rows")?;
     let mut sums = Sums::none();
     for waveform in 1..14 {
         print_waveform(rt, bandwidth, waveform, &mut sums)?;
@@ -75,12 +75,12 @@ fn print_band(rt: &LibcRuntime, bandwidth: usize) -> io::Result<()> {
         block,
         increment,
     } = sums;
-    println!(rt, "sums of {rows}: {frames} {sent} {block} {increment}")
+    println!(rt; "sums of {rows}: {frames} {sent} {block} {increment}")
 }
 
 // The rate, the bits of a symbol and the symbols of a frame; then each interleaver.
 fn print_waveform(
-    rt: &LibcRuntime,
+    rt: &HostRuntime,
     bandwidth: usize,
     waveform: usize,
     sums: &mut Sums,
@@ -96,26 +96,29 @@ fn print_waveform(
         bandwidth,
         waveform,
         interleaver: 0,
-    }).entry()
+    })
+    .entry()
     else {
-        return println!(rt, "{waveform} -");
+        return println!(rt; "{waveform} -");
     };
-    print!(rt, "{waveform} {rate} {symbol_bits} {frame_length}")?;
+    print!(rt; "{waveform} {rate} {symbol_bits} {frame_length}")?;
     for interleaver in 0..4 {
         if let Some(entry) = (Row {
             bandwidth,
             waveform,
             interleaver,
-        }).entry() {
+        })
+        .entry()
+        {
             sums.add(entry);
             print_interleaver(rt, entry)?;
         }
     }
-    println!(rt, "")
+    println!(rt; "")
 }
 
 // The frames, the bits, the bits of the block and the increment.
-fn print_interleaver(rt: &LibcRuntime, entry: Entry) -> io::Result<()> {
+fn print_interleaver(rt: &HostRuntime, entry: Entry) -> io::Result<()> {
     let Entry {
         frames,
         sent_length,
@@ -123,5 +126,5 @@ fn print_interleaver(rt: &LibcRuntime, entry: Entry) -> io::Result<()> {
         increment,
         ..
     } = entry;
-    print!(rt, ", {frames} {sent_length} {block_length} {increment}")
+    print!(rt; ", {frames} {sent_length} {block_length} {increment}")
 }

@@ -1,12 +1,10 @@
 // The send list of each rate, for both constraint lengths.
-use plan::ChainFaultDisplay;
 use plan::Plan;
-use rows::RateDisplay;
 use rows::Row;
 use std::io;
 
 // A bandwidth and a waveform for each rate.
-pub fn print_lists(rt: &LibcRuntime) -> io::Result<()> {
+pub fn print_lists(rt: &HostRuntime) -> io::Result<()> {
     for (bandwidth, waveform) in [
         (21, 12),
         (3, 11),
@@ -34,23 +32,23 @@ pub fn print_lists(rt: &LibcRuntime) -> io::Result<()> {
     Ok(())
 }
 
-fn print_plan(rt: &LibcRuntime, row: Row, constraint: usize) -> io::Result<()> {
+fn print_plan(rt: &HostRuntime, row: Row, constraint: usize) -> io::Result<()> {
     if let Some(entry) = row.entry() {
         let rate = entry.rate;
-        print!(rt, "{rate} with {constraint}:")?;
+        print!(rt; "{rate} with {constraint}:")?;
     }
     match row.plan(rt.alloc(), constraint) {
         Ok(plan) => print_list(rt, &plan),
-        Err(fault) => println!(rt, " {fault}"),
+        Err(fault) => println!(rt; " {fault}"),
     }
 }
 
 // The period, and then the list.
-fn print_list(rt: &LibcRuntime, plan: &Plan) -> io::Result<()> {
+fn print_list(rt: &HostRuntime, plan: &Plan) -> io::Result<()> {
     let period = plan.parts().period;
-    print!(rt, " {period},")?;
+    print!(rt; " {period},")?;
     for entry in plan.parts().send_list.as_slice() {
-        print!(rt, " {entry}")?;
+        print!(rt; " {entry}")?;
     }
-    println!(rt, "")
+    println!(rt; "")
 }

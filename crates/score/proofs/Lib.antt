@@ -1,4 +1,3 @@
-pub mod Tallies
 pub mod Laws
 pub mod Sources
 pub mod BlockLaws

@@ -4,3 +4,4 @@ pub mod Kinds
 pub mod Blocks
 pub mod Sums
 pub mod Gathered
+pub mod Tallies

@@ -1,28 +1,23 @@
 // The score of a block against the values that were heard.
-ghost use mathlib.Core.Bool.{true};
-ghost use mathlib.Core.Path.{_≡_};
-ghost use Prim.Native.Nat.{_+_, _*_, _%_, _<_};
-ghost use lib.ListN.{length};
-ghost use Rattle·code.specs.Coding.{around, coded, is-block};
-ghost use Rattle·code.specs.Numbers.{bits-of, digit, num};
-ghost use Rattle·plan.specs.Faults.{chain-number, outcome};
-ghost use Rattle·plan.specs.Plans.{plan-scheme};
-ghost use Rattle·plan.specs.Questions.{all-below};
-ghost use Rattle·score·specs.Blocks.{value-at, step-score, block-score, score-answer, Agrees, Contradicts};
-ghost use Rattle·score·specs.Scale.{better};
-ghost use Rattle·score·specs.Sums.{Takes-each-once};
-ghost use Rattle·std.specs.Vec.{made};
+ghost use Rattle.std.specs.Prelude.{◌≡◌, ◌+◌, ◌*◌, ◌%◌, ◌<◌, true, length, IfOk};
+ghost use Rattle.code.specs.Coding.{around, coded, is_block};
+ghost use Rattle.code.specs.Numbers.{bits_of, digit, num};
+ghost use Rattle.plan.specs.Faults.{chain_number, outcome};
+ghost use Rattle.plan.specs.Plans.{plan_scheme};
+ghost use Rattle.plan.specs.Questions.{all_below};
+ghost use Rattle.score.specs.Blocks.{value_at, step_score, block_score, score_answer, Agrees, Contradicts};
+ghost use Rattle.score.specs.Scale.{better};
+ghost use Rattle.score.specs.Sums.{TakesEachOnce};
+
 use crate::gathered::gathering::gather;
 use crate::kind::Kind;
-use code::is_block;
-use code::parity;
-use plan::ChainFault;
-use plan::Plan;
+use code::{is_block, parity};
+use plan::{ChainFault, Plan};
 
 // The bit at an index that may pass the block's end once, as a number.
 fn bit_around(block: &[u8], index: usize) -> u16
-    requires { ⌜ index < 2 * length (now block) ⌝ ∗ ⌜ all-below 2 (now block) ≡ true ⌝ }
-    ensures { λ r. ⌜ r ≡ digit (bits-of (now (block .entry)) (index % length (now (block .entry)))) ⌝ }
+    requires { (index < 2 * length block.now) × (all_below 2 block.now ≡ true) }
+    ensures { result ≡ digit (bits_of block.now (index % length block.now)) }
 {
     if index < block.len() {
         u16::from(block[index])
@@ -33,8 +28,8 @@ fn bit_around(block: &[u8], index: usize) -> u16
 
 // Window t of the block as a number, its newest bit lowest.
 fn window_at(plan: &Plan, block: &[u8], t: usize) -> u16
-    requires { ⌜ is-block (plan-scheme (now plan)) (now block) ≡ true ⌝ ∗ ⌜ t < plan-scheme (now plan) .block ⌝ }
-    ensures { λ r. ⌜ r ≡ num (around (plan-scheme (now (plan .entry))) (bits-of (now (block .entry)))) (plan-scheme (now (plan .entry)) .constraint) t ⌝ }
+    requires { (is_block (plan_scheme plan.now) block.now ≡ true) × (t < (plan_scheme plan.now).block) }
+    ensures { result ≡ num (around (plan_scheme plan.now) (bits_of block.now)) (plan_scheme plan.now).constraint t }
 {
     let mut window = 0;
     for i in 0..plan.parts().constraint {
@@ -45,8 +40,8 @@ fn window_at(plan: &Plan, block: &[u8], t: usize) -> u16
 
 // The pair of coded bits that the block sends at step t.
 fn pair_at(plan: &Plan, block: &[u8], t: usize) -> (bool, bool)
-    requires { ⌜ is-block (plan-scheme (now plan)) (now block) ≡ true ⌝ ∗ ⌜ t < plan-scheme (now plan) .block ⌝ }
-    ensures { λ r. ⌜ r ≡ coded (plan-scheme (now (plan .entry))) (bits-of (now (block .entry))) t ⌝ }
+    requires { (is_block (plan_scheme plan.now) block.now ≡ true) × (t < (plan_scheme plan.now).block) }
+    ensures { result ≡ coded (plan_scheme plan.now) (bits_of block.now) t }
 {
     parity(plan, window_at(plan, block, t))
 }
@@ -60,16 +55,16 @@ fn step<K: Kind>(
     t: usize,
     score: K::Score,
 ) -> K::Score
-    requires { ⌜ is-block (plan-scheme (now plan)) (now block) ≡ true ⌝ ∗ ⌜ t < plan-scheme (now plan) .block ⌝ }
-    ensures { λ r. ⌜ r ≡ step-score (K·Kind .scale (now (kind .entry))) (plan-scheme (now (plan .entry))) (value-at (now (memory .entry))) t (coded (plan-scheme (now (plan .entry))) (bits-of (now (block .entry))) t) score ⌝ }
+    requires { (is_block (plan_scheme plan.now) block.now ≡ true) × (t < (plan_scheme plan.now).block) }
+    ensures { result ≡ step_score (K.Kind.scale kind.now) (plan_scheme plan.now) (value_at memory.now) t (coded (plan_scheme plan.now) (bits_of block.now) t) score }
 {
     gather(plan, memory, t).absorb(kind, pair_at(plan, block, t), score)
 }
 
 // The score of all steps of the block.
 fn steps<K: Kind>(plan: &Plan, kind: &K, memory: &[i16], block: &[u8]) -> K::Score
-    requires { ⌜ is-block (plan-scheme (now plan)) (now block) ≡ true ⌝ }
-    ensures { λ r. ⌜ r ≡ block-score (K·Kind .scale (now (kind .entry))) (plan-scheme (now (plan .entry))) (value-at (now (memory .entry))) (bits-of (now (block .entry))) ⌝ }
+    requires { is_block (plan_scheme plan.now) block.now ≡ true }
+    ensures { result ≡ block_score (K.Kind.scale kind.now) (plan_scheme plan.now) (value_at memory.now) (bits_of block.now) }
 {
     let mut score = kind.start();
     for t in 0..block.len() {
@@ -85,11 +80,11 @@ pub fn score_of<K: Kind>(
     memory: &[i16],
     block: &[u8],
 ) -> Result<K::Score, ChainFault>
-    ensures answer { λ r. ⌜ outcome chain-number r ≡ score-answer (plan-scheme (now (plan .entry))) (now (block .entry)) (length (now (memory .entry))) ⌝ }
-    ensures score { λ r. ⌜ made r (λ x. x ≡ block-score (K·Kind .scale (now (kind .entry))) (plan-scheme (now (plan .entry))) (value-at (now (memory .entry))) (bits-of (now (block .entry)))) ⌝ }
-    ensures each { λ r. ⌜ made r (λ x. Takes-each-once (K·Kind .scale (now (kind .entry))) (plan-scheme (now (plan .entry))) (value-at (now (memory .entry))) (bits-of (now (block .entry))) x) ⌝ }
-    ensures agreed { λ r. ⌜ (Agrees (plan-scheme (now (plan .entry))) (value-at (now (memory .entry))) (bits-of (now (block .entry))) → made r (λ x. x ≡ K·Kind .scale (now (kind .entry)) .start)) ⌝ }
-    ensures contradicted { λ r. ⌜ (Contradicts (plan-scheme (now (plan .entry))) (value-at (now (memory .entry))) (bits-of (now (block .entry))) → made r (λ x. better (K·Kind .scale (now (kind .entry))) (K·Kind .scale (now (kind .entry)) .start) x ≡ true)) ⌝ }
+    ensures answer { outcome chain_number result ≡ score_answer (plan_scheme plan.now) block.now (length memory.now) }
+    ensures score { IfOk result (λ x. x ≡ block_score (K.Kind.scale kind.now) (plan_scheme plan.now) (value_at memory.now) (bits_of block.now)) }
+    ensures each { IfOk result (λ x. TakesEachOnce (K.Kind.scale kind.now) (plan_scheme plan.now) (value_at memory.now) (bits_of block.now) x) }
+    ensures agreed { Agrees (plan_scheme plan.now) (value_at memory.now) (bits_of block.now) → IfOk result (λ x. x ≡ (K.Kind.scale kind.now).start) }
+    ensures contradicted { Contradicts (plan_scheme plan.now) (value_at memory.now) (bits_of block.now) → IfOk result (λ x. better (K.Kind.scale kind.now) (K.Kind.scale kind.now).start x ≡ true) }
 {
     if !is_block(plan, block) {
         return Err(ChainFault::Block);

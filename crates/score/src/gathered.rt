@@ -1,5 +1,5 @@
 // The values of a step, gathered once so that every state can take them.
-ghost use Prim.Native.Nat.{_≤_};
+ghost use Rattle.std.specs.Prelude.{◌≤◌};
 
 pub mod gathering;
 

@@ -1,6 +1,9 @@
 // The three kinds of score.
-ghost use mathlib.Core.Path.{_≡_};
-ghost use Rattle·score·specs.Kinds.{total-scale, worst-scale, count-scale, counted};
+ghost use Rattle.std.specs.Prelude.{◌≡◌};
+ghost use Rattle.score.specs.Kinds.{total_scale, worst_scale, count_scale, counted};
+ghost use Rattle.std.proofs.Common.{rules};
+ghost use Rattle.score.specs.Tallies.{count_lawful};
+
 use crate::kind::Kind;
 use crate::tally::Tally;
 use crate::value::*;
@@ -9,10 +12,12 @@ use crate::value::*;
 #[derive(Clone, Copy, Debug)]
 pub struct Total;
 
-pub impl Kind for Total as TotalKind {
+impl Kind for Total {
     type Score = u64;
 
-    ghost scale = { λ _. total-scale };
+    ghost scale = { λ _. total_scale };
+
+    ghost lawful = { Prim.search rules };
 
     fn start(&self) -> u64 {
         0
@@ -31,10 +36,12 @@ pub impl Kind for Total as TotalKind {
 #[derive(Clone, Copy, Debug)]
 pub struct Worst;
 
-pub impl Kind for Worst as WorstKind {
+impl Kind for Worst {
     type Score = u16;
 
-    ghost scale = { λ _. worst-scale };
+    ghost scale = { λ _. worst_scale };
+
+    ghost lawful = { Prim.search rules };
 
     fn start(&self) -> u16 {
         0
@@ -53,10 +60,12 @@ pub impl Kind for Worst as WorstKind {
 #[derive(Clone, Copy, Debug)]
 pub struct CountFirst;
 
-pub impl Kind for CountFirst as CountFirstKind {
+impl Kind for CountFirst {
     type Score = Tally;
 
-    ghost scale = { λ _. count-scale };
+    ghost scale = { λ _. count_scale };
+
+    ghost lawful = { λ k. count_lawful };
 
     fn start(&self) -> Tally {
         Tally::Counted(0, 0)
@@ -82,7 +91,7 @@ pub impl Kind for CountFirst as CountFirstKind {
 
 // The score with one contradicted place more, of this weight.
 fn one_more(score: Tally, weight: u16) -> Tally
-    ensures { λ r. ⌜ r ≡ counted score weight ⌝ }
+    ensures { result ≡ counted score weight }
 {
     match score {
         Tally::Counted(count, total) => {

@@ -1,17 +1,17 @@
 // What a value says of a bit.
-ghost use mathlib.Core.Path.{_≡_};
-ghost use Rattle·score·specs.Values.{contradicted, weight};
+ghost use Rattle.std.specs.Prelude.{◌≡◌};
+ghost use Rattle.score.specs.Values.{contradicted, weight};
 
 // Whether the value says the other bit: a positive one says 0, a negative one 1, zero nothing.
 pub(crate) fn is_contradicted(value: i16, bit: bool) -> bool
-    ensures { λ r. ⌜ r ≡ contradicted value bit ⌝ }
+    ensures { result ≡ contradicted value bit }
 {
     if bit { value > 0 } else { value < 0 }
 }
 
 // The value's size where it is contradicted, else 0.
 pub(crate) fn weight(value: i16, bit: bool) -> u16
-    ensures { λ r. ⌜ r ≡ weight value bit ⌝ }
+    ensures { result ≡ weight value bit }
 {
     if is_contradicted(value, bit) {
         value.unsigned_abs()

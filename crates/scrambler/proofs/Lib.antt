@@ -1,4 +1,3 @@
 pub mod Shifting
-pub mod Bounds
 pub mod Polynomial
 pub mod Periods

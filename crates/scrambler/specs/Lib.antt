@@ -2,3 +2,4 @@ pub mod Meaning
 pub mod Questions
 pub mod Shifts
 pub mod Meanings
+pub mod Bounds

@@ -1,9 +1,7 @@
 // A register of nine bits.
-ghost use mathlib.Core.Path.{_≡_};
-ghost use mathlib.Core.Bool.{true};
-ghost use Prim.Native.Nat.{_*_};
-ghost use Rattle·scrambler·specs.Questions.{width-fits};
-ghost use Rattle·scrambler·specs.Shifts.{state-after};
+ghost use Rattle.std.specs.Prelude.{◌≡◌, ◌*◌, true};
+ghost use Rattle.scrambler.specs.Questions.{width_fits};
+ghost use Rattle.scrambler.specs.Shifts.{state_after};
 
 pub mod drawing;
 pub mod laws;
@@ -14,6 +12,6 @@ pub struct Register {
     // the place whose value the register shows
     place: usize,
     state: u16,
-    ghost fits: { width-fits width ≡ true },
-    ghost stands: { state ≡ state-after (place * width) },
+    ghost fits: { width_fits width ≡ true },
+    ghost stands: { state ≡ state_after (place * width) },
 }

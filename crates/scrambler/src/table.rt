@@ -1,8 +1,6 @@
 // A table of values.
-ghost use mathlib.Core.Path.{_≡_};
-ghost use mathlib.Core.Bool.{true};
-ghost use Rattle·scrambler·specs.Questions.{table-fits};
-ghost use Rattle·std.specs.Of.Vec.{vec-items};
+ghost use Rattle.std.specs.Prelude.{◌≡◌, true};
+ghost use Rattle.scrambler.specs.Questions.{table_fits};
 
 pub mod holding;
 
@@ -10,5 +8,5 @@ pub mod holding;
 pub struct Table {
     width: usize,
     values: Vec<u8>,
-    ghost fits: { table-fits width (vec-items values) ≡ true },
+    ghost fits: { table_fits width values.items ≡ true },
 }

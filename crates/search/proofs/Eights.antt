@@ -1,23 +1,14 @@
 -- Eight states of a step, the last first: their marks in a byte, their scores in the new column.
 -- Assumes nothing.
-use mathlib.Core.Path.{_≡_, refl, sym, ap, subst, _∙_}
-use mathlib.Core.Bool.{Bool}
-use mathlib.Core.List.{List}
-use mathlib.Core.Logic.{⊎-elim}
-use Prim.Native.Nat.{ℕ, _+_, _-_, _*_, _/_, _%_, _^_, _<_, _≤_}
-use native.Mathlib.Nat.{pow-le-pow-right}
-use native.Mathlib.Numerals.{add-one}
-use native.Mathlib.Omega.{arith}
-use mir.Val.{boolByte}
-use lib.Dec.{eqb}
-use lib.ListN.{length, getD, set as put}
-use lib.Seq.{getD-set-same, getD-set-other}
-use Rattle·std.proofs.shelf.Lists.{length-set}
-use Rattle·std.proofs.shelf.Tests.{cases-eq}
-use Rattle·code.specs.Numbers.{digit, num}
-use Rattle·code.proofs.Windows.{bit-num}
-use Rattle·trellis.specs.Marks.{lit}
-use Rattle·trellis.proofs.Bits.{byte-digit, num-below}
+use Rattle.std.proofs.Common.{◌≡◌, ℕ, ◌+◌, ◌-◌, ◌*◌, ◌/◌, ◌%◌, ◌^◌, ◌<◌, ◌≤◌, Bool, eqb, List, length, get_or, set as put, sym, refl, ap, ◌∙◌, subst, ⊎_elim, add-one, arith, get_or-set_other, get_or-set_same}
+use native.Mathlib.Nat.{pow-le-pow_right}
+use mir.Val.{bool_byte}
+use Rattle.std.proofs.lemmas.List.{length-set}
+use Rattle.std.proofs.lemmas.Bool.{cases_eq}
+use Rattle.code.specs.Numbers.{digit, num}
+use Rattle.code.proofs.Windows.{bit_num}
+use Rattle.trellis.specs.Marks.{lit}
+use Rattle.trellis.proofs.Bits.{byte_digit, num_below}
 
 module _ {S : Type 0} (mark : ℕ → Bool) (score : ℕ → S) (start : S) (before : List S) (group : ℕ) where
   -- the state of turn i
@@ -27,44 +18,44 @@ module _ {S : Type 0} (mark : ℕ → Bool) (score : ℕ → S) (start : S) (bef
   -- after the first i turns
   pub record Done (i byte : ℕ) (scores : List S) : Type 0 where
     pub marks : byte ≡ num (λ j. mark (turn j)) i 0
-    pub set : (j : ℕ) → j < i → getD scores (turn j) start ≡ score (turn j)
-    pub below : (s : ℕ) → s < 8 * group → getD scores s start ≡ getD before s start
+    pub set : (j : ℕ) → j < i → get_or scores (turn j) start ≡ score (turn j)
+    pub below : (s : ℕ) → s < 8 * group → get_or scores s start ≡ get_or before s start
     pub len : length scores ≡ length before
 
-  pub done-none : Done 0 0 before
-  done-none = record { marks = refl; set = λ j l. absurd (omega arith); below = λ s l. refl; len = refl }
+  pub done_none : Done 0 0 before
+  done_none = record { marks = refl; set = λ j l. absurd (omega arith); below = λ s l. refl; len = refl }
 
-  pub done-fits : (i byte : ℕ) (scores : List S) → i < 8 → Done i byte scores → byte < 128
-  done-fits i byte scores l d =
+  pub done_fits : (i byte : ℕ) (scores : List S) → i < 8 → Done i byte scores → byte < 128
+  done_fits i byte scores l d =
       let k : i ≤ 7 = omega arith in
-      let p : 2 ^ i ≤ 2 ^ 7 = pow-le-pow-right (omega arith) k in
-      omega (arith, num-below (λ j. mark (turn j)) i 0, d .marks)
+      let p : 2 ^ i ≤ 2 ^ 7 = pow-le-pow_right (omega arith) k in
+      omega (arith, num_below (λ j. mark (turn j)) i 0, d.marks)
 
-  pub done-more : (i byte : ℕ) (scores : List S) (b : Bool) (x : S) (byte' : ℕ) (scores' : List S) → i < 8 → 8 * group + 8 ≤ length before →
-      b ≡ mark (turn i) → x ≡ score (turn i) → byte' ≡ 2 * byte + boolByte b → scores' ≡ put scores (turn i) x →
+  pub done_more : (i byte : ℕ) (scores : List S) (b : Bool) (x : S) (byte' : ℕ) (scores' : List S) → i < 8 → 8 * group + 8 ≤ length before →
+      b ≡ mark (turn i) → x ≡ score (turn i) → byte' ≡ 2 * byte + bool_byte b → scores' ≡ put scores (turn i) x →
       Done i byte scores → Done (i + 1) byte' scores'
-  done-more i byte scores b x byte' scores' l h p q e f d = subst (Done (i + 1) byte') (sym f) (record {
-    marks = e ∙ ap (λ n. 2 * byte + n) (byte-digit b) ∙ ap (λ n. 2 * n + digit b) (d .marks)
+  done_more i byte scores b x byte' scores' l h p q e f d = subst (Done (i + 1) byte') (sym f) (record {
+    marks = e ∙ ap (λ n. 2 * byte + n) (byte_digit b) ∙ ap (λ n. 2 * n + digit b) d.marks
         ∙ ap (λ c. 2 * num (λ j. mark (turn j)) i 0 + digit c) (p ∙ ap (λ j. mark (turn j)) (omega arith))
         ∙ ap (λ n. num (λ j. mark (turn j)) n 0) (sym (add-one i));
-    set = λ j k. ⊎-elim
-        (λ e. ap (λ n. getD (put scores (turn i) x) (turn n) start) e ∙ getD-set-same scores (turn i) x start (omega (arith, d .len)) ∙ q ∙ ap (λ n. score (turn n)) (sym e))
-        (λ ne. getD-set-other scores (turn i) (turn j) x start (λ e. ne (omega arith)) ∙ d .set j (omega arith))
-        (cases-eq j i);
-    below = λ s k. getD-set-other scores (turn i) s x start (λ e. omega arith) ∙ d .below s k;
-    len = length-set scores (turn i) x ∙ d .len;
+    set = λ j k. ⊎_elim
+        (λ e. ap (λ n. get_or (put scores (turn i) x) (turn n) start) e ∙ get_or-set_same scores (turn i) x start (omega (arith, d.len)) ∙ q ∙ ap (λ n. score (turn n)) (sym e))
+        (λ ne. get_or-set_other scores (turn i) (turn j) x start (λ e. ne (omega arith)) ∙ d.set j (omega arith))
+        (cases_eq j i);
+    below = λ s k. get_or-set_other scores (turn i) s x start (λ e. omega arith) ∙ d.below s k;
+    len = length-set scores (turn i) x ∙ d.len;
   })
 
-  pub done-marks : (n byte : ℕ) (scores : List S) → n ≡ 8 → Done n byte scores → (i : ℕ) → i < 8 → lit byte i ≡ mark (8 * group + i)
-  done-marks n byte scores a d i l =
+  pub done_marks : (n byte : ℕ) (scores : List S) → n ≡ 8 → Done n byte scores → (i : ℕ) → i < 8 → lit byte i ≡ mark (8 * group + i)
+  done_marks n byte scores a d i l =
       let e : 8 - 1 - (7 - i) ≡ i = omega arith in
       let f : ℕ → Bool = λ j. mark (turn j) in
-      ap (λ x. eqb (x / 2 ^ i % 2) 1) (d .marks ∙ ap (λ k. num f k 0) a)
+      ap (λ x. eqb (x / 2 ^ i % 2) 1) (d.marks ∙ ap (λ k. num f k 0) a)
       ∙ ap (λ j. eqb (num f 8 0 / 2 ^ j % 2) 1) (sym e)
-      ∙ bit-num f 8 0 (7 - i) (omega arith)
+      ∙ bit_num f 8 0 (7 - i) (omega arith)
       ∙ ap mark (omega arith)
 
-  pub done-scores : (n byte : ℕ) (scores : List S) → n ≡ 8 → Done n byte scores → (i : ℕ) → i < 8 → getD scores (8 * group + i) start ≡ score (8 * group + i)
-  done-scores n byte scores a d i l =
+  pub done_scores : (n byte : ℕ) (scores : List S) → n ≡ 8 → Done n byte scores → (i : ℕ) → i < 8 → get_or scores (8 * group + i) start ≡ score (8 * group + i)
+  done_scores n byte scores a d i l =
       let e : 8 * group + i ≡ turn (7 - i) = omega arith in
-      ap (λ k. getD scores k start) e ∙ d .set (7 - i) (omega arith) ∙ ap score (sym e)
+      ap (λ k. get_or scores k start) e ∙ d.set (7 - i) (omega arith) ∙ ap score (sym e)

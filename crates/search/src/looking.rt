@@ -1,19 +1,15 @@
 // The whole search, as it is called.
-ghost use mathlib.Core.Bool.{false, cond};
-ghost use mathlib.Core.Path.{_≡_};
-ghost use Rattle·code.specs.Numbers.{bits-of};
-ghost use Rattle·plan.specs.Faults.{chain-number, outcome};
-ghost use Rattle·plan.specs.Plans.{plan-scheme};
-ghost use Rattle·score.specs.Blocks.{value-at};
-ghost use Rattle·std.specs.Results.{isOk};
-ghost use Rattle·std.specs.Vec.{made};
-ghost use Rattle·search·specs.Looking.{Found, shown, lengths, long-enough, search-answer};
+ghost use Rattle.std.specs.Prelude.{◌≡◌, false, is_ok, IfOk, if◌then◌else◌};
+ghost use Rattle.code.specs.Numbers.{bits_of};
+ghost use Rattle.plan.specs.Faults.{chain_number, outcome};
+ghost use Rattle.plan.specs.Plans.{plan_scheme};
+ghost use Rattle.score.specs.Blocks.{value_at};
+ghost use Rattle.search.specs.Looking.{Found, shown, lengths, long_enough, search_answer};
+
 use crate::pass::Pass;
-use plan::ChainFault;
-use plan::Plan;
+use plan::{ChainFault, Plan};
 use score::Kind;
-use trellis::Column;
-use trellis::Trellis;
+use trellis::{Column, Trellis};
 
 // Writes the block that fits the values best, and answers its score: a pass round the trellis for each start number.
 // What the columns and the marks hold afterwards is left open. A memory that is too short is refused, and nothing changes.
@@ -26,12 +22,12 @@ pub fn search<'a, 'c, K: Kind>(
     new: &mut Column<'c, K::Score>,
     marks: &mut [u8],
 ) -> Result<K::Score, ChainFault>
-    ensures answer { λ r. ⌜ outcome chain-number r ≡ search-answer (plan-scheme (now (plan .entry))) (lengths (now (values .entry)) (now (block .entry)) (now (now (old .entry) .scores)) (now (now (new .entry) .scores)) (now (marks .entry))) ⌝ }
-    ensures found { λ r. let k = K·Kind .scale (now (kind .entry)) in let s = plan-scheme (now (plan .entry)) in let v = value-at (now (values .entry)) in ⌜ made r (λ score. Found k s v (bits-of (now (block .exit))) score) ⌝ }
-    ensures block { λ r. let k = K·Kind .scale (now (kind .entry)) in let s = plan-scheme (now (plan .entry)) in let v = value-at (now (values .entry)) in ⌜ now (block .exit) ≡ cond (isOk r) (shown k s v (now (block .entry))) (now (block .entry)) ⌝ }
-    ensures old { λ r. ⌜ (isOk r ≡ false → now (now (old .exit) .scores) ≡ now (now (old .entry) .scores)) ⌝ }
-    ensures new { λ r. ⌜ (isOk r ≡ false → now (now (new .exit) .scores) ≡ now (now (new .entry) .scores)) ⌝ }
-    ensures marks { λ r. ⌜ (isOk r ≡ false → now (marks .exit) ≡ now (marks .entry)) ⌝ }
+    ensures answer { outcome chain_number result ≡ search_answer (plan_scheme plan.now) (lengths values.now block.old old.old.scores.now new.old.scores.now marks.old) }
+    ensures found { let k = K.Kind.scale kind.now in let s = plan_scheme plan.now in let v = value_at values.now in IfOk result (λ score. Found k s v (bits_of block.new) score) }
+    ensures block { let k = K.Kind.scale kind.now in let s = plan_scheme plan.now in let v = value_at values.now in block.new ≡ (if is_ok result then shown k s v block.old else block.old) }
+    ensures old { is_ok result ≡ false → old.new.scores.now ≡ old.old.scores.now }
+    ensures new { is_ok result ≡ false → new.new.scores.now ≡ new.old.scores.now }
+    ensures marks { is_ok result ≡ false → marks.new ≡ marks.old }
 {
     if !has_room(plan, values, block, old, new, marks) {
         return Err(ChainFault::TooShort);
@@ -54,7 +50,7 @@ fn has_room<S: Copy>(
     new: &Column<'_, S>,
     marks: &[u8],
 ) -> bool
-    ensures { λ r. ⌜ r ≡ long-enough (plan-scheme (now (plan .entry))) (lengths (now (values .entry)) (now (block .entry)) (now (now (old .entry) .scores)) (now (now (new .entry) .scores)) (now (marks .entry))) ⌝ }
+    ensures { result ≡ long_enough (plan_scheme plan.now) (lengths values.now block.now old.now.scores.now new.now.scores.now marks.now) }
 {
     let trellis = Trellis::of(plan);
     plan.sent_length() <= values.len()

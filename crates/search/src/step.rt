@@ -3,8 +3,7 @@ mod column;
 mod ways;
 
 use plan::Plan;
-use score::Kind;
-use score::StepValues;
+use score::{Kind, StepValues};
 use trellis::Trellis;
 
 // A step of a pass: the values that it takes, and the bit that it must shift out, if one is forced.

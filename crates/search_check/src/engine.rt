@@ -1,7 +1,6 @@
 // A plain engine: it scores every block of nine bits, and keeps the best.
 use plan::Plan;
-use score::Kind;
-use score::score_of;
+use score::{Kind, score_of};
 use search::search;
 use trellis::Column;
 

@@ -4,15 +4,8 @@ mod values;
 
 use crate::engine::compared;
 use crate::values::Values;
-use plan::Parts;
-use plan::Plan;
-use score::CountFirst;
-use score::CountFirstKind;
-use score::Tally;
-use score::Total;
-use score::TotalKind;
-use score::Worst;
-use score::WorstKind;
+use plan::{Parts, Plan};
+use score::{CountFirst, Tally, Total, Worst};
 use std::alloc::Global;
 use std::io;
 
@@ -68,17 +61,16 @@ fn compare(plan: &Plan, lists: u32) -> Agreed {
     agreed
 }
 
-fn main(rt: LibcRuntime) -> io::Result<()> {
+fn main(rt: HostRuntime) -> io::Result<()> {
     for constraint in [7, 9] {
         let Some(plan) = small_plan(rt.alloc(), constraint) else {
-            return println!(rt, "the plan is refused");
+            return println!(rt; "the plan is refused");
         };
         let agreed = compare(&plan, 100);
         let total = agreed.total;
         let worst = agreed.worst;
         let count_first = agreed.count_first;
-        println!(
-            rt,
+        println!(rt;
             "constraint length {constraint}, of 100 lists of values: Total {total}, Worst {worst}, Count-first {count_first} agree"
         )?;
     }

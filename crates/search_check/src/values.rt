@@ -19,7 +19,8 @@ impl Values {
     }
 
     fn next(&mut self) -> i16 {
-        self.0 = self.0
+        self.0 = self
+            .0
             .wrapping_mul(6_364_136_223_846_793_005)
             .wrapping_add(1_442_695_040_888_963_407);
         match self.0 >> 60 {

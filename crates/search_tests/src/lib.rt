@@ -1,11 +1,6 @@
 // The search on small plans, run.
-use plan::ChainFault;
-use plan::ChainFromPlan;
-use plan::ChainFromRefused;
-use plan::Parts;
-use plan::Plan;
+use plan::{ChainFault, Parts, Plan};
 use score::Total;
-use score::TotalKind;
 use search::search;
 use std::alloc::Global;
 use trellis::Column;
@@ -45,11 +40,11 @@ fn look(
 #[cfg(test)]
 mod tests {
     use super::*;
-    use std::test::*;
+    use std::test::Fail;
 
     // One value alone decides; the byte past the block stays.
     #[test]
-    fn one_value(rt: LibcRuntime) -> Result<(), Fail> {
+    fn one_value(rt: HostRuntime) -> Result<(), Fail> {
         let mut block = [7; 10];
         let Ok(score) = look(
             rt.alloc(),
@@ -59,13 +54,14 @@ mod tests {
         ) else {
             return Err(Fail::new("refused"));
         };
-        check_eq(score, 0)?;
-        check_eq(block, [0, 0, 0, 0, 0, 0, 1, 0, 0, 7])
+        assert_eq!(rt; score, 0);
+        assert_eq!(rt; block, [0, 0, 0, 0, 0, 0, 1, 0, 0, 7]);
+        Ok(())
     }
 
     // Every location as the block 100000000 sends it.
     #[test]
-    fn all_values(rt: LibcRuntime) -> Result<(), Fail> {
+    fn all_values(rt: HostRuntime) -> Result<(), Fail> {
         let mut block = [7; 9];
         let Ok(score) = look(
             rt.alloc(),
@@ -75,17 +71,19 @@ mod tests {
         ) else {
             return Err(Fail::new("refused"));
         };
-        check_eq(score, 0)?;
-        check_eq(block, [1, 0, 0, 0, 0, 0, 0, 0, 0])
+        assert_eq!(rt; score, 0);
+        assert_eq!(rt; block, [1, 0, 0, 0, 0, 0, 0, 0, 0]);
+        Ok(())
     }
 
     // A memory that is one value too short is refused.
     #[test]
-    fn too_short(rt: LibcRuntime) -> Result<(), Fail> {
+    fn too_short(rt: HostRuntime) -> Result<(), Fail> {
         let mut block = [7; 9];
         let Err(ChainFault::TooShort) = look(rt.alloc(), 9, &[0; 11], &mut block) else {
             return Err(Fail::new("not refused"));
         };
-        check_eq(block, [7; 9])
+        assert_eq!(rt; block, [7; 9]);
+        Ok(())
     }
 }

@@ -1,27 +1,23 @@
 -- Scrambling is taken off again.
 -- Assumes nothing.
-use mathlib.Core.Path.{_≡_, refl, sym, ap, subst, _∙_}
-use mathlib.Core.Bool.{Bool, true, false, cond}
-use Prim.Native.Nat.{ℕ, zero, suc, _+_, _-_, _*_, _/_, _%_, _^_, _<_, _≤_}
-use native.Mathlib.Omega.{arith}
-use lib.Bits.{bitXor, xor-assoc, xor-self, xor-zero-r, xor-lt}
-use lib.Dec.{leb}
-use Rattle·sender·specs.Scrambling.{needed-width, scrambled, unscrambled}
-use Rattle·sender·specs.Laws.{Comes-back}
+use Rattle.std.proofs.Common.{◌≡◌, ℕ, zero, suc, ◌+◌, ◌-◌, ◌*◌, ◌/◌, ◌%◌, ◌^◌, ◌<◌, ◌≤◌, Bool, true, false, cond, leb, sym, refl, ap, ◌∙◌, subst, arith}
+use lib.Bits.{bit_xor, xor_assoc, xor_self, xor_zero_r, xor_lt}
+use Rattle.sender.specs.Scrambling.{needed_width, scrambled, unscrambled}
+use Rattle.sender.specs.Laws.{ComesBack}
 
-sum-back : (y v : ℕ) → y < 8 → v < 8 → ((y + v) % 8 + (8 - v % 8)) % 8 ≡ y
-sum-back y v h k = omega arith
+sum_back : (y v : ℕ) → y < 8 → v < 8 → ((y + v) % 8 + (8 - v % 8)) % 8 ≡ y
+sum_back y v h k = omega arith
 
-exclusive-back : (y v : ℕ) → bitXor (bitXor y v) v ≡ y
-exclusive-back y v = xor-assoc y v v ∙ ap (bitXor y) (xor-self v) ∙ xor-zero-r y
+exclusive_back : (y v : ℕ) → bit_xor (bit_xor y v) v ≡ y
+exclusive_back y v = xor_assoc y v v ∙ ap (bit_xor y) (xor_self v) ∙ xor_zero_r y
 
 -- either way of scrambling, by whether the symbols have few bits
-back-by : (few : Bool) (q y v : ℕ) → y < 2 ^ cond few 3 q → v < 2 ^ cond few 3 q →
-    (cond few ((y + v) % 8) (bitXor y v) < 2 ^ cond few 3 q) ×
-    (cond few ((cond few ((y + v) % 8) (bitXor y v) + (8 - v % 8)) % 8) (bitXor (cond few ((y + v) % 8) (bitXor y v)) v) ≡ y)
-back-by true q y v h k = (omega arith, sum-back y v h k)
-back-by false q y v h k = (xor-lt q y v h k, exclusive-back y v)
+back_by : (few : Bool) (q y v : ℕ) → y < 2 ^ cond few 3 q → v < 2 ^ cond few 3 q →
+    (cond few ((y + v) % 8) (bit_xor y v) < 2 ^ cond few 3 q) ×
+    (cond few ((cond few ((y + v) % 8) (bit_xor y v) + (8 - v % 8)) % 8) (bit_xor (cond few ((y + v) % 8) (bit_xor y v)) v) ≡ y)
+back_by true q y v h k = (omega arith, sum_back y v h k)
+back_by false q y v h k = (xor_lt q y v h k, exclusive_back y v)
 
-pub comes-back : Comes-back
+pub comes_back : ComesBack
 unfolding scrambled unscrambled
-comes-back q y v h k = back-by (leb q 3) q y v h k
+comes_back q y v h k = back_by (leb q 3) q y v h k

@@ -1,14 +1,11 @@
 // The on-air indices of an interleaver array.
-ghost use mathlib.Core.Bool.{true};
-ghost use mathlib.Core.List.{_++_, map};
-ghost use mathlib.Core.Path.{_≡_};
-ghost use Prim.Native.Nat.{_+_, _%_, _<_, _≤_};
-ghost use lib.ListN.{length, drop};
-ghost use Rattle·plan.specs.Plans.{plan-scheme};
-ghost use Rattle·plan.specs.Scheme.{sent-length};
-ghost use Rattle·sender·specs.Scrambling.{fits as scheme-fits};
-ghost use Rattle·sender·specs.Transmission.{symbols, index-at};
-ghost use Rattle·std.specs.Iters.{counting};
+ghost use Rattle.std.specs.Prelude.{◌≡◌, ◌+◌, ◌%◌, ◌<◌, ◌≤◌, true, ◌++◌, map, length, drop};
+ghost use Rattle.plan.specs.Plans.{plan_scheme};
+ghost use Rattle.plan.specs.Scheme.{sent_length};
+ghost use Rattle.sender.specs.Scrambling.{fits as scheme-fits};
+ghost use Rattle.sender.specs.Transmission.{symbols, index_at};
+ghost use Rattle.std.specs.List.{range_with_len};
+
 use crate::scrambling::scramble;
 use code::symbol_at;
 use plan::Plan;
@@ -16,8 +13,8 @@ use scrambler::Scrambler;
 
 // The place in its frame of the symbol after the one at this place.
 fn next_place(plan: &Plan, place: usize) -> usize
-    requires { ⌜ place < plan-scheme (now plan) .frame ⌝ }
-    ensures { λ r. ⌜ r ≡ (place + 1) % plan-scheme (now (plan .entry)) .frame ⌝ }
+    requires { place < (plan_scheme plan.now).frame }
+    ensures { result ≡ (place + 1) % (plan_scheme plan.now).frame }
 {
     if place + 1 == plan.parts().frame_length {
         0
@@ -34,12 +31,12 @@ fn on_air_index<S: Scrambler>(
     i: usize,
     place: usize,
 ) -> u8
-    requires fit { ⌜ scheme-fits (plan-scheme (now plan)) (meaning (now scrambler)) ≡ true ⌝ }
-    requires whole { ⌜ length (now array) ≡ sent-length (plan-scheme (now plan)) ⌝ }
-    requires below { ⌜ i < symbols (plan-scheme (now plan)) ⌝ }
-    requires placed { ⌜ place ≡ i % plan-scheme (now plan) .frame ⌝ }
-    ensures value { λ r. ⌜ r ≡ index-at (plan-scheme (now (plan .entry))) (meaning (now (scrambler .entry))) (now (array .entry)) i ⌝ }
-    ensures kept { λ _. ⌜ meaning (now (scrambler .exit)) ≡ meaning (now (scrambler .entry)) ⌝ }
+    requires fit { scheme-fits (plan_scheme plan.now) (meaning scrambler.old) ≡ true }
+    requires whole { length array.now ≡ sent_length (plan_scheme plan.now) }
+    requires below { i < symbols (plan_scheme plan.now) }
+    requires placed { place ≡ i % (plan_scheme plan.now).frame }
+    ensures value { result ≡ index_at (plan_scheme plan.now) (meaning scrambler.old) array.now i }
+    ensures kept { meaning scrambler.new ≡ meaning scrambler.old }
 {
     let symbol = symbol_at(plan, array, i).unwrap();
     let value = scrambler.value(place).unwrap();
@@ -53,11 +50,11 @@ pub(crate) fn write_indices<S: Scrambler>(
     array: &[bool],
     out: &mut [u8],
 )
-    requires fit { ⌜ scheme-fits (plan-scheme (now plan)) (meaning (now scrambler)) ≡ true ⌝ }
-    requires whole { ⌜ length (now array) ≡ sent-length (plan-scheme (now plan)) ⌝ }
-    requires room { ⌜ symbols (plan-scheme (now plan)) ≤ length (now out) ⌝ }
-    ensures after { λ _. ⌜ now (out .exit) ≡ map (index-at (plan-scheme (now (plan .entry))) (meaning (now (scrambler .entry))) (now (array .entry))) (counting 0 (symbols (plan-scheme (now (plan .entry))))) ++ drop (symbols (plan-scheme (now (plan .entry)))) (now (out .entry)) ⌝ }
-    ensures kept { λ _. ⌜ meaning (now (scrambler .exit)) ≡ meaning (now (scrambler .entry)) ⌝ }
+    requires fit { scheme-fits (plan_scheme plan.now) (meaning scrambler.old) ≡ true }
+    requires whole { length array.now ≡ sent_length (plan_scheme plan.now) }
+    requires room { symbols (plan_scheme plan.now) ≤ length out.old }
+    ensures after { out.new ≡ map (index_at (plan_scheme plan.now) (meaning scrambler.old) array.now) (range_with_len 0 (symbols (plan_scheme plan.now))) ++ drop (symbols (plan_scheme plan.now)) out.old }
+    ensures kept { meaning scrambler.new ≡ meaning scrambler.old }
 {
     let mut place = 0;
     for i in 0..plan.symbols() {

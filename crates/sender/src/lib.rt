@@ -5,24 +5,16 @@ mod scrambling;
 mod sender;
 
 pub use laws::sending_holds;
-pub use scrambling::fits;
-pub use scrambling::needed_width;
-pub use scrambling::scramble;
-pub use scrambling::unscramble;
+pub use scrambling::{fits, needed_width, scramble, unscramble};
 pub use sender::Sender;
 
 #[cfg(test)]
 mod tests {
     use super::*;
-    use plan::ChainFault;
-    use plan::ChainFromPlan;
-    use plan::ChainFromRefused;
-    use plan::Parts;
-    use plan::Plan;
+    use plan::{ChainFault, Parts, Plan};
     use scrambler::Table;
-    use scrambler::TableScrambler;
     use std::alloc::Global;
-    use std::test::*;
+    use std::test::Fail;
 
     // The on-air indices of the block 100000000, four symbols of three bits, and a byte that stays.
     fn sent(heap: Global) -> Result<[u8; 5], ChainFault> {
@@ -43,19 +35,20 @@ mod tests {
     }
 
     #[test]
-    fn known_block(rt: LibcRuntime) -> Result<(), Fail> {
+    fn known_block(rt: HostRuntime) -> Result<(), Fail> {
         let Ok(out) = sent(rt.alloc()) else {
             return Err(Fail::new("refused"));
         };
-        check_eq(out, [6, 5, 3, 3, 9])
+        assert_eq!(rt; out, [6, 5, 3, 3, 9]);
+        Ok(())
     }
 
     // The standard's own examples, there and back.
     #[test]
-    fn examples() -> Result<(), Fail> {
-        check_eq(scramble(3, 6, 2), 0)?;
-        check_eq(unscramble(3, 0, 2), 6)?;
-        check_eq(scramble(4, 0b0011, 0b0101), 0b0110)?;
-        check_eq(unscramble(4, 0b0110, 0b0101), 0b0011)
+    fn examples(rt: HostRuntime) {
+        assert_eq!(rt; scramble(3, 6, 2), 0);
+        assert_eq!(rt; unscramble(3, 0, 2), 6);
+        assert_eq!(rt; scramble(4, 0b0011, 0b0101), 0b0110);
+        assert_eq!(rt; unscramble(4, 0b0110, 0b0101), 0b0011);
     }
 }

@@ -1,13 +1,14 @@
 // Scrambling a symbol, and taking the scrambling off.
-ghost use mathlib.Core.Path.{_≡_};
-ghost use Rattle·plan.specs.Plans.{plan-scheme};
-ghost use Rattle·sender·specs.Scrambling.{needed-width, scrambled, unscrambled, fits as scheme-fits};
+ghost use Rattle.std.specs.Prelude.{◌≡◌};
+ghost use Rattle.plan.specs.Plans.{plan_scheme};
+ghost use Rattle.sender.specs.Scrambling.{needed_width, scrambled, unscrambled, fits as scheme-fits};
+
 use plan::Plan;
 use scrambler::Scrambler;
 
 // The on-air index of a symbol of so many bits, with a scrambler's value.
 pub fn scramble(bits: usize, symbol: u8, value: u8) -> u8
-    ensures { λ r. ⌜ r ≡ scrambled bits symbol value ⌝ }
+    ensures { result ≡ scrambled bits symbol value }
 {
     if bits <= 3 {
         ((u16::from(symbol) + u16::from(value)) % 8) as u8
@@ -18,7 +19,7 @@ pub fn scramble(bits: usize, symbol: u8, value: u8) -> u8
 
 // The symbol of an on-air index, with the value that scrambled it.
 pub fn unscramble(bits: usize, index: u8, value: u8) -> u8
-    ensures { λ r. ⌜ r ≡ unscrambled bits index value ⌝ }
+    ensures { result ≡ unscrambled bits index value }
 {
     if bits <= 3 {
         ((u16::from(index) + (8 - u16::from(value) % 8)) % 8) as u8
@@ -29,15 +30,15 @@ pub fn unscramble(bits: usize, index: u8, value: u8) -> u8
 
 // The width that symbols of so many bits need.
 pub fn needed_width(bits: usize) -> usize
-    ensures { λ r. ⌜ r ≡ needed-width bits ⌝ }
+    ensures { result ≡ needed_width bits }
 {
     if bits <= 3 { 3 } else { bits }
 }
 
 // Whether the scrambler has the width that the plan needs, and a value for every symbol of a frame.
 pub fn fits<S: Scrambler>(plan: &Plan, scrambler: &mut S) -> bool
-    ensures answer { λ r. ⌜ r ≡ scheme-fits (plan-scheme (now (plan .entry))) (meaning (now (scrambler .entry))) ⌝ }
-    ensures kept { λ _. ⌜ meaning (now (scrambler .exit)) ≡ meaning (now (scrambler .entry)) ⌝ }
+    ensures answer { result ≡ scheme-fits (plan_scheme plan.now) (meaning scrambler.old) }
+    ensures kept { meaning scrambler.new ≡ meaning scrambler.old }
 {
     let width = scrambler.width();
     let reach = scrambler.reach();

@@ -1,10 +1,8 @@
 // A sender: a plan, a scrambler, and the buffers that the blocks go through.
-ghost use denote.Ref.{now};
-ghost use mathlib.Core.Path.{_≡_};
-ghost use Prim.Native.Nat.{_*_};
-ghost use Rattle·plan.specs.Plans.{plan-scheme};
-ghost use Rattle·plan.specs.Scheme.{sent-length};
-ghost use Rattle·std.specs.Of.Vec.{vec-len};
+ghost use Rattle.std.specs.Prelude.{◌≡◌, ◌*◌, vec_len};
+ghost use Rattle.plan.specs.Plans.{plan_scheme};
+ghost use Rattle.plan.specs.Scheme.{sent_length};
+
 use plan::Plan;
 
 mod sending;
@@ -17,6 +15,6 @@ pub struct Sender<'p, S> {
     word: Vec<bool>,
     // its sent bits, each at its location
     array: Vec<bool>,
-    ghost word_long: { vec-len word ≡ 2 * plan-scheme (now plan) .block },
-    ghost array_long: { vec-len array ≡ sent-length (plan-scheme (now plan)) },
+    ghost word_long: { vec_len word ≡ 2 * (plan_scheme plan.now).block },
+    ghost array_long: { vec_len array ≡ sent_length (plan_scheme plan.now) },
 }

@@ -1,79 +1,68 @@
 -- What a command leaves, by what the call behind it answered.
 -- Assumes nothing.
-use mathlib.Core.Path.{_≡_, refl, sym, ap, _∙_}
-use mathlib.Core.Bool.{Bool, true, false, cond}
-use mathlib.Core.List.{List}
-use Prim.Native.Nat.{ℕ}
-use lib.Dec.{eqb}
-use lib.IntN.{ℤ}
-use Rattle·std.specs.Of.Vec.{vec-items}
-use Rattle·std.specs.Options.{mapped}
-use Rattle·std.specs.Results.{isOk}
-use Rattle·std.specs.declared.option.Option.{Option}
-use Rattle·std.specs.declared.option.Option.the-variants.{Some, None}
-use Rattle·std.specs.declared.result.Result.{Result}
-use Rattle·std.specs.declared.result.Result.the-variants.{Ok, Err}
-use Rattle·std.proofs.shelf.Tests.{eq-eqb, ne-eqb, cond-true, cond-false, false≢true}
-use Rattle·plan.specs.Faults.{chain-number, outcome}
-use Rattle·plan.specs.Plans.{plan-scheme}
-use Rattle·plan.specs.Scheme.{Scheme}
-use Rattle·plan.specs.declared.fault.ChainFault.{ChainFault}
-use Rattle·lines.specs.declared.command.Command.{Command}
-use Rattle·receiver.specs.Receivers.{view-of}
-use Rattle·receiver.specs.Views.{View}
-use Rattle·receiver.specs.declared.receiver.Receiver.{Receiver}
-use Rattle·scrambler.specs.Meanings.{table-meaning}
-use Rattle·scrambler.specs.declared.table.Table.{Table}
-use Rattle·sender.proofs.Outcomes.{accepted as accepted-is-ok}
-use Rattle·session·specs.Held.{Held, asked, with-call, answer, accepted, after}
-use Rattle·session·specs.Sessions.{held}
-use Rattle·session·specs.declared.session.Session.{Session}
+use Rattle.std.proofs.Common.{◌≡◌, ℕ, Bool, true, false, cond, eqb, List, ℤ, is_ok, Some, None, Ok, Err, vec_items, Option, Result, sym, refl, ap, ◌∙◌}
+use Rattle.std.specs.Option.{option_map}
+use Rattle.std.proofs.lemmas.Bool.{eq-eqb, ne_eqb, cond-true, cond-false, false≢true}
+use Rattle.plan.specs.Faults.{chain_number, outcome}
+use Rattle.plan.specs.Plans.{plan_scheme}
+use Rattle.plan.specs.Scheme.{Scheme}
+use Rattle.plan.specs.declared.fault.ChainFault.{ChainFault}
+use Rattle.lines.specs.declared.command.Command.{Command}
+use Rattle.receiver.specs.Receivers.{view_of}
+use Rattle.receiver.specs.Views.{View}
+use Rattle.receiver.specs.declared.receiver.Receiver.{Receiver}
+use Rattle.scrambler.specs.Meanings.{table_meaning}
+use Rattle.scrambler.specs.declared.table.Table.{Table}
+use Rattle.sender.proofs.Outcomes.{accepted as accepted_is_ok}
+use Rattle.session.specs.Held.{Held, asked, with_call, answer, accepted, after}
+use Rattle.session.specs.Sessions.{held}
+use Rattle.session.specs.declared.session.Session.{Session}
 
 -- a fault has a number of its own, and not that of an accepted call
-pub fault-not-zero : (f : ChainFault) → eqb (chain-number f) 0 ≡ false
-fault-not-zero f = ne-eqb (chain-number f) 0 (λ e. false≢true (accepted-is-ok {X = ℕ} (Err f) e))
+pub fault_not_zero : (f : ChainFault) → eqb (chain_number f) 0 ≡ false
+fault_not_zero f = ne_eqb (chain_number f) 0 (λ e. false≢true (accepted_is_ok {X = ℕ} (Err f) e))
 
 -- a refused command leaves what is held
-pub refused-keeps : (h : Held) (c : Command) (f : ChainFault) → chain-number f ≡ answer h c → h ≡ after h c
-refused-keeps h c f e = sym (cond-false _ _ _ (ap (λ n. eqb n 0) (sym e) ∙ fault-not-zero f))
+pub refused_keeps : (h : Held) (c : Command) (f : ChainFault) → chain_number f ≡ answer h c → h ≡ after h c
+refused_keeps h c f e = sym (cond-false _ _ _ (ap (λ n. eqb n 0) (sym e) ∙ fault_not_zero f))
 
 -- an accepted one leaves what it should
-pub accepted-changes : (h : Held) (c : Command) → 0 ≡ answer h c → accepted h c ≡ after h c
-accepted-changes h c e = sym (cond-true _ _ _ (eq-eqb (answer h c) 0 (sym e)))
+pub accepted_changes : (h : Held) (c : Command) → 0 ≡ answer h c → accepted h c ≡ after h c
+accepted_changes h c e = sym (cond-true _ _ _ (eq-eqb (answer h c) 0 (sym e)))
 
 -- what is there answers
-pub answers-there : {X Y : Type 0} (view : X → Y) (o : Option X) (x : X) (number : Y → ℕ) → o ≡ Some x → number (view x) ≡ asked (mapped view o) number
-answers-there view o x number is = ap (λ p. asked (mapped view p) number) (sym is)
+pub answers_there : {X Y : Type 0} (view : X → Y) (o : Option X) (x : X) (number : Y → ℕ) → o ≡ Some x → number (view x) ≡ asked (option_map view o) number
+answers_there view o x number is = ap (λ p. asked (option_map view p) number) (sym is)
 
 abbrev pub holding : Option Scheme → Option View → List ℤ → Held
 holding plan receiver values = record { plan = plan; receiver = receiver; values = values }
 
 abbrev view : Receiver Table → View
-view r = view-of table-meaning r
+view r = view_of table_meaning r
 
 -- what a call of the receiver answers and leaves, as the session sees it
 pub record Called (s : Session) (y : Receiver Table) (left : List ℤ) (number : View → List ℤ → ℕ) (f : View → List ℤ → List ℤ) (answered : ℕ) : Type 0 where
-  pub answer : answered ≡ asked (held s .receiver) (λ v. number v (held s .values))
-  pub after : holding (held s .plan) (Some (view y)) left
-      ≡ cond (eqb (asked (held s .receiver) (λ v. number v (held s .values))) 0) (with-call (held s) (held s .receiver) (λ v. f v (held s .values))) (held s)
+  pub answer : answered ≡ asked (held s).receiver (λ v. number v (held s).values)
+  pub after : holding (held s).plan (Some (view y)) left
+      ≡ cond (eqb (asked (held s).receiver (λ v. number v (held s).values)) 0) (with_call (held s) (held s).receiver (λ v. f v (held s).values)) (held s)
 
 module _ (plan : Option Scheme) (x y : Receiver Table) (values left : List ℤ) (kept : view y ≡ view x) (n : ℕ) (changed : List ℤ) where
-  left-by : {R : Type 0} (r : Result R ChainFault) → outcome chain-number r ≡ n → left ≡ cond (isOk r) changed values →
+  left_by : {R : Type 0} (r : Result R ChainFault) → outcome chain_number r ≡ n → left ≡ cond (is_ok r) changed values →
       holding plan (Some (view y)) left ≡ cond (eqb n 0) (holding plan (Some (view x)) changed) (holding plan (Some (view x)) values)
-  left-by (Ok u) answered now = (λ i. holding plan (Some (kept i)) (now i)) ∙ sym (cond-true _ _ _ (eq-eqb n 0 (sym answered)))
-  left-by (Err e) answered now =
-      (λ i. holding plan (Some (kept i)) (now i)) ∙ sym (cond-false _ _ _ (ap (λ m. eqb m 0) (sym answered) ∙ fault-not-zero e))
+  left_by (Ok u) answered now = (λ i. holding plan (Some (kept i)) (now i)) ∙ sym (cond-true _ _ _ (eq-eqb n 0 (sym answered)))
+  left_by (Err e) answered now =
+      (λ i. holding plan (Some (kept i)) (now i)) ∙ sym (cond-false _ _ _ (ap (λ m. eqb m 0) (sym answered) ∙ fault_not_zero e))
 
-pub called : (s : Session) (x y : Receiver Table) (lent left : List ℤ) → s .receiver ≡ Some x → view y ≡ view x → lent ≡ vec-items (s .memory) →
+pub called : (s : Session) (x y : Receiver Table) (lent left : List ℤ) → s.receiver ≡ Some x → view y ≡ view x → lent ≡ vec_items s.memory →
     (number : View → List ℤ → ℕ) (f : View → List ℤ → List ℤ) {R : Type 0} (r : Result R ChainFault) →
-    outcome chain-number r ≡ number (view x) lent → left ≡ cond (isOk r) (f (view x) lent) lent → Called s y left number f (outcome chain-number r)
+    outcome chain_number r ≡ number (view x) lent → left ≡ cond (is_ok r) (f (view x) lent) lent → Called s y left number f (outcome chain_number r)
 called s x y lent left is kept same number f r answered now =
-    let values = vec-items (s .memory) in
-    let plan = held s .plan in
-    let n : outcome chain-number r ≡ number (view x) values = answered ∙ ap (number (view x)) same in
+    let values = vec_items s.memory in
+    let plan = (held s).plan in
+    let n : outcome chain_number r ≡ number (view x) values = answered ∙ ap (number (view x)) same in
     record {
-      answer = n ∙ answers-there view (s .receiver) x (λ v. number v values) is;
+      answer = n ∙ answers_there view s.receiver x (λ v. number v values) is;
       after =
-          left-by plan x y values left kept (number (view x) values) (f (view x) values) r n (now ∙ ap (λ l. cond (isOk r) (f (view x) l) l) same)
-          ∙ ap (λ o. cond (eqb (asked (mapped view o) (λ v. number v values)) 0) (with-call (holding plan (mapped view o) values) (mapped view o) (λ v. f v values)) (holding plan (mapped view o) values)) (sym is);
+          left_by plan x y values left kept (number (view x) values) (f (view x) values) r n (now ∙ ap (λ l. cond (is_ok r) (f (view x) l) l) same)
+          ∙ ap (λ o. cond (eqb (asked (option_map view o) (λ v. number v values)) 0) (with_call (holding plan (option_map view o) values) (option_map view o) (λ v. f v values)) (holding plan (option_map view o) values)) (sym is);
     }

@@ -1,10 +1,8 @@
 // Room that a command may need, had before it is carried out, so that none wants memory.
-ghost use mathlib.Core.Path.{_≡_};
-ghost use Rattle·std.specs.Of.Vec.{vec-len};
-ghost use Rattle·std.specs.Vec.{made};
+ghost use Rattle.std.specs.Prelude.{◌≡◌, IfOk, vec_len};
+
 use plan::ListRoom;
-use std::alloc::AllocError;
-use std::alloc::Global;
+use std::alloc::{AllocError, Global};
 
 #[derive(Drop)]
 pub struct CommandRoom {
@@ -12,13 +10,13 @@ pub struct CommandRoom {
     pub(crate) block: Vec<u8>,
     // for a second copy of the plan
     pub(crate) list: ListRoom,
-    ghost whole: { vec-len block ≡ 256 },
+    ghost whole: { vec_len block ≡ 256 },
 }
 
 impl CommandRoom {
     // The room for one command.
     pub fn new(heap: Global) -> Result<CommandRoom, AllocError>
-        ensures { λ r. ⌜ made r (λ x. vec-len (x .block) ≡ 256) ⌝ }
+        ensures { IfOk result (λ x. vec_len x.block ≡ 256) }
     {
         let block = vec![in heap; 0; 256]?;
         let list = ListRoom::new(heap)?;

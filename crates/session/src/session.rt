@@ -1,8 +1,7 @@
 // What is held between lines: a plan, the receiver that a table made by it, and memory for every plan that the bench takes.
-ghost use mathlib.Core.Bool.{true};
-ghost use mathlib.Core.Path.{_≡_};
-ghost use Rattle·session·specs.Sizes.{small-plan, small-receiver};
-ghost use Rattle·std.specs.Of.Vec.{vec-len};
+ghost use Rattle.std.specs.Prelude.{◌≡◌, true, vec_len};
+ghost use Rattle.session.specs.Sizes.{small_plan, small_receiver};
+
 use plan::Plan;
 use receiver::Receiver;
 use scrambler::Table;
@@ -22,9 +21,9 @@ pub struct Session {
     // the two columns of a look
     scores: Vec<u64>,
     marks: Vec<u8>,
-    ghost small_plan: { small-plan plan ≡ true },
-    ghost small_receiver: { small-receiver receiver ≡ true },
-    ghost values: { vec-len memory ≡ 1024 },
-    ghost columns: { vec-len scores ≡ 512 },
-    ghost marks_of_all: { vec-len marks ≡ 8192 },
+    ghost small_plan: { small_plan plan ≡ true },
+    ghost small_receiver: { small_receiver receiver ≡ true },
+    ghost values: { vec_len memory ≡ 1024 },
+    ghost columns: { vec_len scores ≡ 512 },
+    ghost marks_of_all: { vec_len marks ≡ 8192 },
 }

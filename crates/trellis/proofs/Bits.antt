@@ -1,80 +1,76 @@
 -- The numbers that bits write: windows, states and the state before.
 -- Assumes nothing.
-use mathlib.Core.Path.{_≡_, refl, sym, ap, _∙_}
-use mathlib.Core.Bool.{Bool, true, false}
-use Prim.Native.Nat.{ℕ, zero, suc, _+_, _-_, _*_, _/_, _%_, _^_, _<_, _≤_}
-use native.Mathlib.Nat.{pow-succ', add-mod-left, div-one, div-eq-of-lt}
-use native.Mathlib.Omega.{arith}
-use mir.Val.{boolByte}
-use lib.Dec.{eqb}
-use Rattle·std.proofs.shelf.Bits.{shr-shr}
-use Rattle·code.specs.Numbers.{digit, num, bit-of}
-use Rattle·trellis·specs.Steps.{around}
-use Rattle·trellis·specs.Survivors.{window, before}
+use Rattle.std.proofs.Common.{◌≡◌, ℕ, zero, suc, ◌+◌, ◌-◌, ◌*◌, ◌/◌, ◌%◌, ◌^◌, ◌<◌, ◌≤◌, Bool, true, false, eqb, sym, refl, ap, ◌∙◌, div-one, arith}
+use native.Mathlib.Nat.{pow-succ', add-mod_left, div-eq_of_lt}
+use mir.Val.{bool_byte}
+use Rattle.std.proofs.lemmas.Nat.{shr-shr}
+use Rattle.code.specs.Numbers.{digit, num, bit_of}
+use Rattle.trellis.specs.Steps.{around}
+use Rattle.trellis.specs.Survivors.{window, before}
 
-pub digit-below : (b : Bool) → digit b < 2
-digit-below true = omega arith
-digit-below false = omega arith
+pub digit_below : (b : Bool) → digit b < 2
+digit_below true = omega arith
+digit_below false = omega arith
 
 -- a bit as a byte is its digit
-pub byte-digit : (b : Bool) → boolByte b ≡ digit b
-byte-digit true = refl
-byte-digit false = refl
+pub byte_digit : (b : Bool) → bool_byte b ≡ digit b
+byte_digit true = refl
+byte_digit false = refl
 
 -- one more bit on the right is taken off again
-pub high-bits : (x : ℕ) (b : Bool) → (2 * x + digit b) / 2 ≡ x
-high-bits x b = omega (arith, digit-below b)
+pub high_bits : (x : ℕ) (b : Bool) → (2 * x + digit b) / 2 ≡ x
+high_bits x b = omega (arith, digit_below b)
 
 -- a number below 2 is a digit
-digit-of : (r : ℕ) → r < 2 → digit (eqb r 1) ≡ r
-digit-of zero l = refl
-digit-of (suc zero) l = refl
-digit-of (suc (suc r)) l = absurd (omega arith)
+digit_of : (r : ℕ) → r < 2 → digit (eqb r 1) ≡ r
+digit_of zero l = refl
+digit_of (suc zero) l = refl
+digit_of (suc (suc r)) l = absurd (omega arith)
 
 -- two runs of bits that agree write one number
-pub num-same : (f g : ℕ → Bool) (n t s : ℕ) → ((i : ℕ) → i < n → f (t + i) ≡ g (s + i)) → num f n t ≡ num g n s
-num-same f g zero t s h = refl
-num-same f g (suc n) t s h =
-    let e = num-same f g n t s (λ i l. h i (omega arith)) in
+pub num_same : (f g : ℕ → Bool) (n t s : ℕ) → ((i : ℕ) → i < n → f (t + i) ≡ g (s + i)) → num f n t ≡ num g n s
+num_same f g zero t s h = refl
+num_same f g (suc n) t s h =
+    let e = num_same f g n t s (λ i l. h i (omega arith)) in
     let d = ap digit (h n (omega arith)) in
     omega arith
 
-pub num-below : (f : ℕ → Bool) (n t : ℕ) → num f n t < 2 ^ n
-num-below f zero t = omega arith
-num-below f (suc n) t = let ih = num-below f n t in omega (arith, pow-succ' 2 n, digit-below (f (t + n)))
+pub num_below : (f : ℕ → Bool) (n t : ℕ) → num f n t < 2 ^ n
+num_below f zero t = omega arith
+num_below f (suc n) t = let ih = num_below f n t in omega (arith, pow-succ' 2 n, digit_below (f (t + n)))
 
 -- a window is its first bit, and the state that its step leads to
-pub num-high : (f : ℕ → Bool) (n t : ℕ) → num f (suc n) t ≡ window n (f t) (num f n (suc t))
-num-high f zero t = let e : digit (f (t + 0)) ≡ digit (f t) = ap (λ i. digit (f i)) (omega arith) in omega arith
-num-high f (suc n) t =
-    let ih = num-high f n t in
+pub num_high : (f : ℕ → Bool) (n t : ℕ) → num f (suc n) t ≡ window n (f t) (num f n (suc t))
+num_high f zero t = let e : digit (f (t + 0)) ≡ digit (f t) = ap (λ i. digit (f i)) (omega arith) in omega arith
+num_high f (suc n) t =
+    let ih = num_high f n t in
     let e : digit (f (t + suc n)) ≡ digit (f (suc t + n)) = ap (λ i. digit (f i)) (omega arith) in
     omega (arith, ap (λ p. digit (f t) * p) (pow-succ' 2 n))
 
 -- the state before a step, from the state after it
-pub num-before : (f : ℕ → Bool) (m t : ℕ) → before m (f t) (num f m (suc t)) ≡ num f m t
-num-before f m t = rw (← num-high f m t) (high-bits (num f m t) (f (t + m)))
+pub num_before : (f : ℕ → Bool) (m t : ℕ) → before m (f t) (num f m (suc t)) ≡ num f m t
+num_before f m t = rw (← num_high f m t) (high_bits (num f m t) (f (t + m)))
 
 -- the first bits of a number write its high part
-num-bits-part : (m x n : ℕ) → n ≤ m → x < 2 ^ m → num (bit-of m x) n 0 ≡ x / 2 ^ (m - n)
-num-bits-part m x zero h l =
+num_bits_part : (m x n : ℕ) → n ≤ m → x < 2 ^ m → num (bit_of m x) n 0 ≡ x / 2 ^ (m - n)
+num_bits_part m x zero h l =
     let z : m - 0 ≡ m = omega arith in
-    rw z (sym (div-eq-of-lt l))
-num-bits-part m x (suc n) h l =
-    let ih = num-bits-part m x n (omega arith) l in
+    rw z (sym (div-eq_of_lt l))
+num_bits_part m x (suc n) h l =
+    let ih = num_bits_part m x n (omega arith) l in
     let z : m - n ≡ (m - suc n) + 1 = omega arith in
     let e : m - 1 - (0 + n) ≡ m - suc n = omega arith in
     let y = x / 2 ^ (m - suc n) in
     let q : x / 2 ^ (m - n) ≡ y / 2 = ap (λ k. x / 2 ^ k) z ∙ sym (shr-shr x (m - suc n) 1) in
-    let d : digit (bit-of m x (0 + n)) ≡ y % 2 = ap (λ k. digit (eqb (x / 2 ^ k % 2) 1)) e ∙ digit-of (y % 2) (omega arith) in
+    let d : digit (bit_of m x (0 + n)) ≡ y % 2 = ap (λ k. digit (eqb (x / 2 ^ k % 2) 1)) e ∙ digit_of (y % 2) (omega arith) in
     omega arith
 
 -- the number that a number's bits write
-pub num-bits : (m x : ℕ) → x < 2 ^ m → num (bit-of m x) m 0 ≡ x
-num-bits m x l =
+pub num_bits : (m x : ℕ) → x < 2 ^ m → num (bit_of m x) m 0 ≡ x
+num_bits m x l =
     let z : m - m ≡ 0 = omega arith in
-    num-bits-part m x m (omega arith) l ∙ ap (λ k. x / 2 ^ k) z ∙ div-one x
+    num_bits_part m x m (omega arith) l ∙ ap (λ k. x / 2 ^ k) z ∙ div-one x
 
 -- the state comes round with the block
-pub num-around : (u : ℕ → Bool) (m size : ℕ) → num (around size u) m size ≡ num (around size u) m 0
-num-around u m size = num-same (around size u) (around size u) m size 0 (λ i l. ap u (add-mod-left size i ∙ ap (λ j. j % size) (omega arith)))
+pub num_around : (u : ℕ → Bool) (m size : ℕ) → num (around size u) m size ≡ num (around size u) m 0
+num_around u m size = num_same (around size u) (around size u) m size 0 (λ i l. ap u (add-mod_left size i ∙ ap (λ j. j % size) (omega arith)))

@@ -1,6 +1,5 @@
 // A column of the trellis: the score of each state at one time, in a lent memory.
-ghost use mathlib.Core.Path.{_≡_};
-ghost use lib.ListN.{length, getD, set, replicate};
+ghost use Rattle.std.specs.Prelude.{◌≡◌, length, replicate, slice_index_or, slice_set};
 
 #[derive(Drop)]
 pub struct Column<'a, S> {
@@ -10,7 +9,7 @@ pub struct Column<'a, S> {
 impl<'a, S: Copy> Column<'a, S> {
     // The score of a state, or a given one past the last state.
     pub fn at(&self, state: usize, past: S) -> S
-        ensures { λ r. ⌜ r ≡ getD (now (now (self .entry) .scores)) state past ⌝ }
+        ensures { result ≡ slice_index_or self.now.scores.now state past }
     {
         let scores: &[S] = self.scores;
         if state < scores.len() {
@@ -22,7 +21,7 @@ impl<'a, S: Copy> Column<'a, S> {
 
     // Sets the score of a state; past the last state nothing changes.
     pub fn put(&mut self, state: usize, score: S)
-        ensures { λ _. ⌜ now (now (self .exit) .scores) ≡ set (now (now (self .entry) .scores)) state score ⌝ }
+        ensures { self.new.scores.now ≡ slice_set self.old.scores.now state score }
     {
         if state < self.scores.len() {
             self.scores[state] = score;
@@ -31,14 +30,14 @@ impl<'a, S: Copy> Column<'a, S> {
 
     // Sets the score of every state.
     pub fn fill(&mut self, score: S)
-        ensures { λ _. ⌜ now (now (self .exit) .scores) ≡ replicate (length (now (now (self .entry) .scores))) score ⌝ }
+        ensures { self.new.scores.now ≡ replicate (length self.old.scores.now) score }
     {
         fill_with(self.scores, score);
     }
 }
 
 fn fill_with<S: Copy>(scores: &mut [S], score: S)
-    ensures { λ _. ⌜ now (scores .exit) ≡ replicate (length (now (scores .entry))) score ⌝ }
+    ensures { scores.new ≡ replicate (length scores.old) score }
 {
     for place in scores.iter_mut() {
         *place = score;

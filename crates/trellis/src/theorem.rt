@@ -1,7 +1,7 @@
 // What the tie rule promises.
-ghost use Rattle·trellis·specs.Best.{Picked-is-best};
+ghost use Rattle.trellis.specs.Best.{PickedIsBest};
 
 // Whatever the scores, if their order is lawful: no block scores better than the one that the tie rule picks.
 pub fn tie_rule_is_best<S>()
-    ensures { λ _. ⌜ Picked-is-best S ⌝ }
+    ensures { PickedIsBest S }
 {}

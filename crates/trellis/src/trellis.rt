@@ -1,6 +1,5 @@
 // The shape of a trellis: the bits of a state, and the steps once round.
-ghost use mathlib.Core.Path.{_≡_};
-ghost use Prim.Native.Nat.{_*_, _^_, _<_, _≤_};
+ghost use Rattle.std.specs.Prelude.{◌≡◌, ◌*◌, ◌^◌, ◌<◌, ◌≤◌};
 
 mod marks;
 mod shape;

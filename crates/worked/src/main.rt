@@ -1,6 +1,5 @@
 // The worked examples that the standard prints, computed by the chain: compared with the stored output.
-use code::location;
-use code::symbol_for;
+use code::{location, symbol_for};
 use plan::Plan;
 use rows::Row;
 use std::alloc::Global;
@@ -17,31 +16,31 @@ fn plan_of(heap: Global, waveform: usize) -> Option<Plan> {
 }
 
 // Where the first nine sent bits are loaded.
-fn print_locations(rt: &LibcRuntime, plan: &Plan) -> io::Result<()> {
-    print!(rt, "load locations:")?;
+fn print_locations(rt: &HostRuntime, plan: &Plan) -> io::Result<()> {
+    print!(rt; "load locations:")?;
     for n in 0..9 {
         let at = location(plan, n).unwrap_or(0);
-        print!(rt, " {at}")?;
+        print!(rt; " {at}")?;
     }
-    println!(rt, "")
+    println!(rt; "")
 }
 
 // Which coded bits of a period are sent.
-fn print_list(rt: &LibcRuntime, rate: &str, plan: &Plan) -> io::Result<()> {
+fn print_list(rt: &HostRuntime, rate: &str, plan: &Plan) -> io::Result<()> {
     let period = plan.parts().period;
-    print!(rt, "rate {rate}: period {period}, sends")?;
+    print!(rt; "rate {rate}: period {period}, sends")?;
     for entry in plan.parts().send_list.iter() {
-        print!(rt, " {entry}")?;
+        print!(rt; " {entry}")?;
     }
-    println!(rt, "")
+    println!(rt; "")
 }
 
-fn print_symbol(rt: &LibcRuntime, bits: &str, number: u8, plan: &Plan) -> io::Result<()> {
+fn print_symbol(rt: &HostRuntime, bits: &str, number: u8, plan: &Plan) -> io::Result<()> {
     let symbol = symbol_for(plan, number);
-    println!(rt, "{bits} is symbol {symbol}")
+    println!(rt; "{bits} is symbol {symbol}")
 }
 
-fn print_waveform(rt: &LibcRuntime, waveform: usize, plan: &Plan) -> io::Result<()> {
+fn print_waveform(rt: &HostRuntime, waveform: usize, plan: &Plan) -> io::Result<()> {
     match waveform {
         1 => print_locations(rt, plan),
         2 => print_list(rt, "1/4", plan),
@@ -52,11 +51,11 @@ fn print_waveform(rt: &LibcRuntime, waveform: usize, plan: &Plan) -> io::Result<
     }
 }
 
-fn main(rt: LibcRuntime) -> io::Result<()> {
+fn main(rt: HostRuntime) -> io::Result<()> {
     for waveform in [1, 2, 3, 5, 8, 10] {
         match plan_of(rt.alloc(), waveform) {
             Some(plan) => print_waveform(&rt, waveform, &plan)?,
-            None => println!(rt, "waveform {waveform} is refused")?,
+            None => println!(rt; "waveform {waveform} is refused")?,
         }
     }
     Ok(())

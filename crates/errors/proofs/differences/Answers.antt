@@ -1,35 +1,30 @@
-use mathlib.Core.Path.{_≡_, sym, ap, _∙_}
-use mathlib.Core.Bool.{cond}
-use Prim.Native.Nat.{ℕ, _+_, min}
-use native.Mathlib.Numerals.{add-one}
-use native.Mathlib.Omega.{arith}
-use lib.ListN.{length}
-use Rattle·std.proofs.shelf.Tests.{eq-eqb, ne-eqb}
-use Rattle·errors·specs.Errors.{differing-below}
-use Rattle·errors·proofs.differences.Needs as need
-use Rattle·errors·proofs.differences.Needs.{then-sent-i, else-sent-i}
+use Rattle.std.proofs.Common.{◌≡◌, ℕ, ◌+◌, min, cond, length, sym, ap, ◌∙◌, add-one, arith}
+use Rattle.std.proofs.lemmas.Bool.{eq-eqb, ne_eqb}
+use Rattle.errors.specs.Errors.{differing_below}
+use Rattle.errors.proofs.differences.Goals as goal
+use Rattle.errors.proofs.differences.Goals.{then-sent-i, else-sent-i}
 
-pub loop-i-again : need.loop-i-again
-loop-i-again c =
-    let xs = c .args .sent .now in
-    let ys = c .args .shown .now in
-    let i = c .loop-i .i in
-    let before = c .loop-i .inv .0 in
-    let next = ap (differing-below xs ys) (add-one i) in
-    elim (c .if-sent-i .came) [
+pub loop-i-preserved : goal.loop-i-preserved
+loop-i-preserved c =
+    let xs = c.args.sent.now in
+    let ys = c.args.shown.now in
+    let i = c.loop-i.i in
+    let before = c.loop-i.invariant.0 in
+    let next = ap (differing_below xs ys) (add-one i) in
+    elim c.if-sent-i.branch [
       | then-sent-i w ↦ (
-        let one = ap (λ b. differing-below xs ys i + cond b 0 1) (ne-eqb _ _ (w .if-sent-i .taken)) in omega (arith, w .count-is, before, next, one),
-        omega (arith, w .count-is),
+        let one = ap (λ b. differing_below xs ys i + cond b 0 1) (ne_eqb _ _ w.if-sent-i.true) in omega (arith, w.count-is, before, next, one),
+        omega (arith, w.count-is),
       )
       | else-sent-i w ↦ (
-        let none = ap (λ b. differing-below xs ys i + cond b 0 1) (eq-eqb _ _ (w .if-sent-i .left)) in omega (arith, w .count-is, before, next, none),
-        omega (arith, w .count-is),
+        let none = ap (λ b. differing_below xs ys i + cond b 0 1) (eq-eqb _ _ w.if-sent-i.false) in omega (arith, w.count-is, before, next, none),
+        omega (arith, w.count-is),
       )
     ]
 
-pub returns : need.returns
+pub returns : goal.returns
 returns c =
-    let xs = c .args .sent .now in
-    let ys = c .args .shown .now in
-    let all : c .loop-i .i ≡ min (length xs) (length ys) = omega arith in
-    omega (arith, c .loop-i .inv .0, ap (differing-below xs ys) all)
+    let xs = c.args.sent.now in
+    let ys = c.args.shown.now in
+    let all : c.loop-i.i ≡ min (length xs) (length ys) = omega arith in
+    omega (arith, c.loop-i.invariant.0, ap (differing_below xs ys) all)

@@ -1,20 +1,20 @@
-use mathlib.Core.Path.{refl}
-use Rattle·code.specs.Coding.{mother}
-use Rattle·code.specs.Mapping.{symbol-at, symbol-of}
-use Rattle·code.specs.Sending.{interleaved, location}
-use Rattle·sender.specs.Scrambling.{scrambled}
-use Rattle·sender.specs.Transmission.{index-at, transmission}
-use Rattle·known·specs.Results.{Known-results}
-use Rattle·known·proofs.known_results_hold.Needs as need
+use Rattle.std.proofs.Common.{refl}
+use Rattle.code.specs.Coding.{mother}
+use Rattle.code.specs.Mapping.{symbol_at, symbol_of}
+use Rattle.code.specs.Sending.{interleaved, location}
+use Rattle.sender.specs.Scrambling.{scrambled}
+use Rattle.sender.specs.Transmission.{index_at, transmission}
+use Rattle.known.specs.Results.{KnownResults}
+use Rattle.known.proofs.known_results_hold.Goals as goal
 
-known : Known-results
-unfolding mother interleaved location symbol-at symbol-of scrambled index-at transmission
+known : KnownResults
+unfolding mother interleaved location symbol_at symbol_of scrambled index_at transmission
 known = record {
   seven = refl;
   nine = refl;
   sent = refl;
   located = refl;
-  located-by-two = refl;
+  located_by_two = refl;
   symbols = refl;
   three = refl;
   four = refl;
@@ -24,5 +24,5 @@ known = record {
   counted = refl;
 }
 
-pub returns : need.returns
+pub returns : goal.returns
 returns c = known

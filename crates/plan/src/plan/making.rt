@@ -1,14 +1,11 @@
 // How a plan is made, and what it tells.
-ghost use mathlib.Core.Path.{_≡_};
-ghost use Prim.Native.Nat.{_/_, _<_, _≤_};
-ghost use lib.ListN.{length};
-ghost use Rattle·plan·specs.Faults.{plan-number, outcome};
-ghost use Rattle·plan·specs.Parts.{scheme};
-ghost use Rattle·plan·specs.Plans.{plan-scheme};
-ghost use Rattle·plan·specs.Questions.{plan-answer};
-ghost use Rattle·plan·specs.Scheme.{sent-length};
-ghost use Rattle·std.specs.Of.Vec.{vec-items, vec-len};
-ghost use Rattle·std.specs.Vec.{made};
+ghost use Rattle.std.specs.Prelude.{◌≡◌, ◌/◌, ◌<◌, ◌≤◌, length, IfOk, vec_len};
+ghost use Rattle.plan.specs.Faults.{plan_number, outcome};
+ghost use Rattle.plan.specs.Parts.{scheme};
+ghost use Rattle.plan.specs.Plans.{plan_scheme};
+ghost use Rattle.plan.specs.Questions.{plan_answer};
+ghost use Rattle.plan.specs.Scheme.{sent_length};
+
 use crate::fault::PlanFault;
 use crate::parts::Parts;
 use crate::plan::Plan;
@@ -18,8 +15,8 @@ use crate::room::ListRoom;
 impl Plan {
     // The plan with these parts, or the first question that is answered no.
     pub fn new(parts: Parts) -> Result<Plan, PlanFault>
-        ensures answer { λ r. ⌜ outcome plan-number r ≡ plan-answer (scheme parts) ⌝ }
-        ensures made { λ r. ⌜ made r (λ p. plan-scheme p ≡ scheme parts) ⌝ }
+        ensures answer { outcome plan_number result ≡ plan_answer (scheme parts) }
+        ensures made { IfOk result (λ p. plan_scheme p ≡ scheme parts) }
     {
         if !constraint_fits(parts.constraint) {
             return Err(PlanFault::ConstraintLength);
@@ -51,14 +48,14 @@ impl Plan {
 
     // The seven parts.
     pub fn parts(&self) -> &Parts
-        ensures { λ r. ⌜ now r ≡ now (self .entry) .parts ⌝ }
+        ensures { result.now ≡ self.now.parts }
     {
         &self.parts
     }
 
     // A second plan of the same parts, its send list in this room.
     pub fn copy(&self, room: ListRoom) -> Plan
-        ensures { λ r. ⌜ plan-scheme r ≡ plan-scheme (now (self .entry)) ⌝ }
+        ensures { plan_scheme result ≡ plan_scheme self.now }
     {
         let parts = &self.parts;
         let send_list = copied(room, parts.send_list.as_slice());
@@ -78,14 +75,14 @@ impl Plan {
 
     // How many bits are sent for a block.
     pub fn sent_length(&self) -> usize
-        ensures { λ r. ⌜ r ≡ sent-length (plan-scheme (now (self .entry))) ⌝ }
+        ensures { result ≡ sent_length (plan_scheme self.now) }
     {
         self.sent_length
     }
 
     // How many symbols are sent for a block.
     pub fn symbols(&self) -> usize
-        ensures { λ r. ⌜ r ≡ sent-length (plan-scheme (now (self .entry))) / plan-scheme (now (self .entry)) .bits ⌝ }
+        ensures { result ≡ sent_length (plan_scheme self.now) / (plan_scheme self.now).bits }
     {
         self.sent_length / self.parts.symbol_bits
     }
@@ -93,8 +90,8 @@ impl Plan {
 
 // The entries, in this room.
 fn copied(room: ListRoom, entries: &[u8]) -> Vec<u8>
-    requires { ⌜ length (now entries) ≤ 32 ⌝ }
-    ensures { λ r. ⌜ vec-items r ≡ now (entries .entry) ⌝ }
+    requires { length entries.now ≤ 32 }
+    ensures { result.items ≡ entries.now }
 {
     let mut list = room.into_list();
     let _ = list.extend_from_slice(entries);
@@ -103,8 +100,8 @@ fn copied(room: ListRoom, entries: &[u8]) -> Vec<u8>
 
 // The send list runs once for each period of the block.
 fn sent_length_of(parts: &Parts) -> usize
-    requires { ⌜ 0 < now parts .period ⌝ ∗ ⌜ now parts .«block_length» ≤ 1843200 ⌝ ∗ ⌜ vec-len (now parts .«send_list») ≤ 32 ⌝ }
-    ensures { λ r. ⌜ r ≡ sent-length (scheme (now (parts .entry))) ⌝ }
+    requires { (0 < parts.now.period) × ((parts.now.block_length ≤ 1843200) × (vec_len parts.now.send_list ≤ 32)) }
+    ensures { result ≡ sent_length (scheme parts.now) }
 {
     parts.block_length / parts.period * parts.send_list.len()
 }

@@ -1,32 +1,25 @@
 // How a receiver is made, and what sets its values.
-ghost use mathlib.Core.Bool.{true, cond};
-ghost use mathlib.Core.Path.{_≡_};
-ghost use Prim.Native.Nat.{_<_, _≤_};
-ghost use lib.ListN.{length};
-ghost use Rattle·plan.specs.Faults.{chain-number, outcome};
-ghost use Rattle·plan.specs.Plans.{plan-scheme};
-ghost use Rattle·receiver·specs.Calls.{view-fits, making-answer, hear-answer, note-answer, blank-answer};
-ghost use Rattle·receiver·specs.Receivers.{view, view-of};
-ghost use Rattle·receiver·specs.Values.{after-making, after-hear, after-note, after-blank, heard};
-ghost use Rattle·std.specs.Results.{isOk};
-ghost use Rattle·std.specs.Vec.{made};
+ghost use Rattle.std.specs.Prelude.{◌≡◌, ◌<◌, ◌≤◌, true, length, is_ok, IfOk, if◌then◌else◌};
+ghost use Rattle.plan.specs.Faults.{chain_number, outcome};
+ghost use Rattle.plan.specs.Plans.{plan_scheme};
+ghost use Rattle.receiver.specs.Calls.{view_fits, making_answer, hear_answer, note_answer, blank_answer};
+ghost use Rattle.receiver.specs.Receivers.{view, view_of};
+ghost use Rattle.receiver.specs.Values.{after_making, after_hear, after_note, after_blank, heard};
+
 use crate::questions::*;
 use crate::receiver::Receiver;
-use crate::values::clear;
-use crate::values::set_bits;
+use crate::values::{clear, set_bits};
 use code::number_for;
-use plan::ChainFault;
-use plan::Plan;
+use plan::{ChainFault, Plan};
 use scrambler::Scrambler;
-use sender::fits;
-use sender::unscramble;
+use sender::{fits, unscramble};
 
 impl<S: Scrambler + Drop> Receiver<S> {
     // A receiver by this plan, where the scrambler fits it; the values of all locations become 0.
     pub fn new(plan: Plan, mut scrambler: S, memory: &mut [i16]) -> Result<Receiver<S>, ChainFault>
-        ensures answer { λ r. ⌜ outcome chain-number r ≡ making-answer (view plan (meaning scrambler)) (length (now (memory .entry))) ⌝ }
-        ensures made { λ r. ⌜ made r (λ x. view-of meaning x ≡ view plan (meaning scrambler)) ⌝ }
-        ensures after { λ r. ⌜ now (memory .exit) ≡ cond (isOk r) (after-making (plan-scheme plan) (now (memory .entry))) (now (memory .entry)) ⌝ }
+        ensures answer { outcome chain_number result ≡ making_answer (view plan (meaning scrambler)) (length memory.old) }
+        ensures made { IfOk result (λ x. view_of meaning x ≡ view plan (meaning scrambler)) }
+        ensures after { memory.new ≡ (if is_ok result then after_making (plan_scheme plan) memory.old else memory.old) }
     {
         if !fits(&plan, &mut scrambler) {
             return Err(ChainFault::Fit);
@@ -40,7 +33,7 @@ impl<S: Scrambler + Drop> Receiver<S> {
 
     // The plan that it was made by.
     pub fn plan(&self) -> &Plan
-        ensures { λ r. ⌜ now r ≡ now (self .entry) .plan ⌝ }
+        ensures { result.now ≡ self.now.plan }
     {
         &self.plan
     }
@@ -52,9 +45,9 @@ impl<S: Scrambler + Drop> Receiver<S> {
         location: usize,
         value: i16,
     ) -> Result<(), ChainFault>
-        ensures answer { λ r. ⌜ outcome chain-number r ≡ note-answer (plan-scheme (now (self .entry) .plan)) (length (now (memory .entry))) location value ⌝ }
-        ensures after { λ r. ⌜ now (memory .exit) ≡ cond (isOk r) (after-note location value (now (memory .entry))) (now (memory .entry)) ⌝ }
-        ensures kept { λ _. ⌜ view-of meaning (now (self .exit)) ≡ view-of meaning (now (self .entry)) ⌝ }
+        ensures answer { outcome chain_number result ≡ note_answer (plan_scheme self.old.plan) (length memory.old) location value }
+        ensures after { memory.new ≡ (if is_ok result then after_note location value memory.old else memory.old) }
+        ensures kept { view_of meaning self.new ≡ view_of meaning self.old }
     {
         if !is_lent(&self.plan, memory.len()) {
             return Err(ChainFault::TooShort);
@@ -68,9 +61,9 @@ impl<S: Scrambler + Drop> Receiver<S> {
 
     // Sets the values of one symbol's locations to 0.
     pub fn blank(&mut self, memory: &mut [i16], place: usize) -> Result<(), ChainFault>
-        ensures answer { λ r. ⌜ outcome chain-number r ≡ blank-answer (plan-scheme (now (self .entry) .plan)) (length (now (memory .entry))) place ⌝ }
-        ensures after { λ r. ⌜ now (memory .exit) ≡ cond (isOk r) (after-blank (plan-scheme (now (self .entry) .plan)) place (now (memory .entry))) (now (memory .entry)) ⌝ }
-        ensures kept { λ _. ⌜ view-of meaning (now (self .exit)) ≡ view-of meaning (now (self .entry)) ⌝ }
+        ensures answer { outcome chain_number result ≡ blank_answer (plan_scheme self.old.plan) (length memory.old) place }
+        ensures after { memory.new ≡ (if is_ok result then after_blank (plan_scheme self.old.plan) place memory.old else memory.old) }
+        ensures kept { view_of meaning self.new ≡ view_of meaning self.old }
     {
         if !is_lent(&self.plan, memory.len()) {
             return Err(ChainFault::TooShort);
@@ -94,9 +87,9 @@ impl<S: Scrambler + Drop> Receiver<S> {
         index: u8,
         weight: u16,
     ) -> Result<(), ChainFault>
-        ensures answer { λ r. ⌜ outcome chain-number r ≡ hear-answer (view-of meaning (now (self .entry))) (length (now (memory .entry))) place index weight ⌝ }
-        ensures after { λ r. ⌜ now (memory .exit) ≡ cond (isOk r) (after-hear (view-of meaning (now (self .entry))) place index weight (now (memory .entry))) (now (memory .entry)) ⌝ }
-        ensures kept { λ _. ⌜ view-of meaning (now (self .exit)) ≡ view-of meaning (now (self .entry)) ⌝ }
+        ensures answer { outcome chain_number result ≡ hear_answer (view_of meaning self.old) (length memory.old) place index weight }
+        ensures after { memory.new ≡ (if is_ok result then after_hear (view_of meaning self.old) place index weight memory.old else memory.old) }
+        ensures kept { view_of meaning self.new ≡ view_of meaning self.old }
     {
         if !fits(&self.plan, &mut self.scrambler) {
             return Err(ChainFault::Fit);
@@ -126,9 +119,9 @@ impl<S: Scrambler + Drop> Receiver<S> {
 
 // The number that a symbol's bits write, once the scrambling is off.
 fn number_heard<S: Scrambler>(plan: &Plan, scrambler: &mut S, place: usize, index: u8) -> Option<u8>
-    requires { ⌜ view-fits (view (now plan) (meaning (now scrambler))) ≡ true ⌝ }
-    ensures value { λ r. ⌜ r ≡ heard (view (now (plan .entry)) (meaning (now (scrambler .entry)))) place index ⌝ }
-    ensures kept { λ _. ⌜ meaning (now (scrambler .exit)) ≡ meaning (now (scrambler .entry)) ⌝ }
+    requires { view_fits (view plan.now (meaning scrambler.old)) ≡ true }
+    ensures value { result ≡ heard (view plan.now (meaning scrambler.old)) place index }
+    ensures kept { meaning scrambler.new ≡ meaning scrambler.old }
 {
     let value = scrambler.value(place % plan.parts().frame_length).unwrap();
     number_for(plan, unscramble(plan.parts().symbol_bits, index, value))

@@ -1,15 +1,12 @@
 // How a receiver shows the best block.
-ghost use mathlib.Core.Bool.{false, cond};
-ghost use mathlib.Core.Path.{_≡_};
-ghost use lib.ListN.{take};
-ghost use Rattle·code.specs.Numbers.{bits-of};
-ghost use Rattle·plan.specs.Faults.{chain-number, outcome};
-ghost use Rattle·plan.specs.Plans.{plan-scheme};
-ghost use Rattle·plan.specs.Scheme.{sent-length};
-ghost use Rattle·score.specs.Blocks.{value-at};
-ghost use Rattle·search.specs.Looking.{Found, shown, lengths, search-answer};
-ghost use Rattle·std.specs.Results.{isOk};
-ghost use Rattle·std.specs.Vec.{made};
+ghost use Rattle.std.specs.Prelude.{◌≡◌, false, take, is_ok, IfOk, if◌then◌else◌};
+ghost use Rattle.code.specs.Numbers.{bits_of};
+ghost use Rattle.plan.specs.Faults.{chain_number, outcome};
+ghost use Rattle.plan.specs.Plans.{plan_scheme};
+ghost use Rattle.plan.specs.Scheme.{sent_length};
+ghost use Rattle.score.specs.Blocks.{value_at};
+ghost use Rattle.search.specs.Looking.{Found, shown, lengths, search_answer};
+
 use crate::receiver::Receiver;
 use plan::ChainFault;
 use score::Kind;
@@ -29,12 +26,12 @@ impl<S: Scrambler + Drop> Receiver<S> {
         new: &mut Column<'c, K::Score>,
         marks: &mut [u8],
     ) -> Result<K::Score, ChainFault>
-        ensures answer { λ r. ⌜ outcome chain-number r ≡ search-answer (plan-scheme (now (self .entry) .plan)) (lengths (now (memory .entry)) (now (block .entry)) (now (now (old .entry) .scores)) (now (now (new .entry) .scores)) (now (marks .entry))) ⌝ }
-        ensures found { λ r. let k = K·Kind .scale (now (kind .entry)) in let s = plan-scheme (now (self .entry) .plan) in let v = value-at (take (sent-length s) (now (memory .entry))) in ⌜ made r (λ score. Found k s v (bits-of (now (block .exit))) score) ⌝ }
-        ensures block { λ r. let k = K·Kind .scale (now (kind .entry)) in let s = plan-scheme (now (self .entry) .plan) in let v = value-at (take (sent-length s) (now (memory .entry))) in ⌜ now (block .exit) ≡ cond (isOk r) (shown k s v (now (block .entry))) (now (block .entry)) ⌝ }
-        ensures old { λ r. ⌜ (isOk r ≡ false → now (now (old .exit) .scores) ≡ now (now (old .entry) .scores)) ⌝ }
-        ensures new { λ r. ⌜ (isOk r ≡ false → now (now (new .exit) .scores) ≡ now (now (new .entry) .scores)) ⌝ }
-        ensures marks { λ r. ⌜ (isOk r ≡ false → now (marks .exit) ≡ now (marks .entry)) ⌝ }
+        ensures answer { outcome chain_number result ≡ search_answer (plan_scheme self.now.plan) (lengths memory.now block.old old.old.scores.now new.old.scores.now marks.old) }
+        ensures found { let k = K.Kind.scale kind.now in let s = plan_scheme self.now.plan in let v = value_at (take (sent_length s) memory.now) in IfOk result (λ score. Found k s v (bits_of block.new) score) }
+        ensures block { let k = K.Kind.scale kind.now in let s = plan_scheme self.now.plan in let v = value_at (take (sent_length s) memory.now) in block.new ≡ (if is_ok result then shown k s v block.old else block.old) }
+        ensures old { is_ok result ≡ false → old.new.scores.now ≡ old.old.scores.now }
+        ensures new { is_ok result ≡ false → new.new.scores.now ≡ new.old.scores.now }
+        ensures marks { is_ok result ≡ false → marks.new ≡ marks.old }
     {
         let values = &memory[0..self.plan.sent_length().min(memory.len())];
         search(&self.plan, kind, values, block, old, new, marks)

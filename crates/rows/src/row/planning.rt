@@ -1,26 +1,20 @@
 // The plan of a row.
-ghost use mathlib.Core.Path.{_≡_};
-ghost use Rattle·plan.specs.Faults.{chain-number, outcome};
-ghost use Rattle·plan.specs.Plans.{plan-scheme};
-ghost use Rattle·plan.specs.Parts.{scheme};
-ghost use Rattle·plan.specs.declared.fault.ChainFault.the-variants.{OutOfMemory};
-ghost use Rattle·rows·specs.Schemes.{entry-scheme, is-constraint, row-answer, row-scheme, Answered};
-ghost use Rattle·std.specs.Vec.{made, refused};
-ghost use Rattle·std.specs.declared.option.Option.the-variants.{Some};
+ghost use Rattle.std.specs.Prelude.{◌≡◌, IfOk, IfErr, Some};
+ghost use Rattle.plan.specs.Faults.{chain_number, outcome};
+ghost use Rattle.plan.specs.Plans.{plan_scheme};
+ghost use Rattle.plan.specs.Parts.{scheme};
+ghost use Rattle.plan.specs.declared.fault.ChainFault.TheVariants.{OutOfMemory};
+ghost use Rattle.rows.specs.Schemes.{entry_scheme, is_constraint, row_answer, row_scheme, Answered};
+
 use crate::pattern::pattern_of;
-use crate::row::Entry;
-use crate::row::Row;
+use crate::row::{Entry, Row};
 use crate::sending::send_list;
-use plan::ChainFault;
-use plan::ChainFromPlan;
-use plan::Parts;
-use plan::Plan;
-use plan::PlanFault;
+use plan::{ChainFault, Parts, Plan, PlanFault};
 use std::alloc::Global;
 
 // The standard has two codes.
 fn is_constraint(constraint: usize) -> bool
-    ensures { λ r. ⌜ r ≡ is-constraint constraint ⌝ }
+    ensures { result ≡ is_constraint constraint }
 {
     constraint == 7 || constraint == 9
 }
@@ -28,8 +22,8 @@ fn is_constraint(constraint: usize) -> bool
 impl Row {
     // The plan of this row with a code of this constraint length. Its send list is new memory, which may be wanting.
     pub fn plan(self, heap: Global, constraint: usize) -> Result<Plan, ChainFault>
-        ensures answer { λ r. ⌜ Answered (outcome chain-number r) (row-answer self constraint) ⌝ }
-        ensures made { λ r. ⌜ made r (λ p. Some (plan-scheme p) ≡ row-scheme self constraint) ⌝ }
+        ensures answer { Answered (outcome chain_number result) (row_answer self constraint) }
+        ensures made { IfOk result (λ p. Some (plan_scheme p) ≡ row_scheme self constraint) }
     {
         let Some(entry) = self.entry() else {
             return Err(ChainFault::Row);
@@ -43,8 +37,8 @@ impl Row {
 
 // The parts of an entry's plan.
 fn parts_of(heap: Global, entry: Entry, constraint: usize) -> Result<Parts, ChainFault>
-    ensures made { λ r. ⌜ made r (λ p. scheme p ≡ entry-scheme entry constraint) ⌝ }
-    ensures refused { λ r. ⌜ refused r (λ e. e ≡ OutOfMemory) ⌝ }
+    ensures made { IfOk result (λ p. scheme p ≡ entry_scheme entry constraint) }
+    ensures refused { IfErr result (λ e. e ≡ OutOfMemory) }
 {
     let pattern = pattern_of(entry.rate, constraint);
     let send_list = send_list(heap, pattern)?;

@@ -1,22 +1,18 @@
 // The table's answer to a row.
-ghost use mathlib.Core.Path.{_≡_};
-ghost use Prim.Native.Nat.{_*_, _<_, _≤_};
-ghost use Rattle·plan.specs.Questions.{within};
-ghost use Rattle·rows·specs.Rows.{place-of, symbol-bits, row-setting, depth-at, entry-of, row-entry};
-ghost use Rattle·rows·specs.Schemes.{Consistent};
-ghost use Rattle·rows·specs.Table.{bandwidths};
-ghost use Rattle·std.specs.Slices.{found};
+ghost use Rattle.std.specs.Prelude.{◌≡◌, ◌*◌, ◌<◌, ◌≤◌, IfSome};
+ghost use Rattle.plan.specs.Questions.{within};
+ghost use Rattle.rows.specs.Rows.{place_of, symbol_bits, row_setting, depth_at, entry_of, row_entry};
+ghost use Rattle.rows.specs.Schemes.{Consistent};
+ghost use Rattle.rows.specs.Table.{bandwidths};
+
 use crate::rate::Rate;
-use crate::row::Entry;
-use crate::row::Row;
-use crate::table::Depth;
-use crate::table::Setting;
-use crate::table::printed;
+use crate::row::{Entry, Row};
+use crate::table::{Depth, Setting, printed};
 
 // The place of a bandwidth in the table.
 fn band(bandwidth: usize) -> Option<usize>
-    ensures value { λ r. ⌜ r ≡ place-of bandwidth bandwidths ⌝ }
-    ensures within { λ r. ⌜ found r (λ i. i < 12) ⌝ }
+    ensures value { result ≡ place_of bandwidth bandwidths }
+    ensures within { IfSome result (λ i. i < 12) }
 {
     match bandwidth {
         3 => Some(0),
@@ -39,22 +35,22 @@ fn band(bandwidth: usize) -> Option<usize>
 static SYMBOL_BITS: [usize; 13] = [1, 1, 1, 1, 1, 2, 3, 4, 5, 6, 6, 8, 2];
 
 fn symbol_bits(waveform: usize) -> usize
-    requires { ⌜ 1 ≤ waveform ⌝ ∗ ⌜ waveform ≤ 13 ⌝ }
-    ensures { λ r. ⌜ r ≡ symbol-bits waveform ⌝ }
+    requires { (1 ≤ waveform) × (waveform ≤ 13) }
+    ensures { result ≡ symbol_bits waveform }
 {
     SYMBOL_BITS[waveform - 1]
 }
 
 // Waveform 0 is of another kind.
 fn is_waveform(waveform: usize) -> bool
-    ensures { λ r. ⌜ r ≡ within 1 13 waveform ⌝ }
+    ensures { result ≡ within 1 13 waveform }
 {
     1 <= waveform && waveform <= 13
 }
 
 // What the table has for the bandwidth and the waveform.
 fn setting(row: Row) -> Option<Setting>
-    ensures { λ r. ⌜ r ≡ row-setting row ⌝ }
+    ensures { result ≡ row_setting row }
 {
     let band = band(row.bandwidth)?;
     if !is_waveform(row.waveform) {
@@ -65,7 +61,7 @@ fn setting(row: Row) -> Option<Setting>
 
 // The interleaver of this number.
 fn depth(setting: Setting, interleaver: usize) -> Option<Depth>
-    ensures { λ r. ⌜ r ≡ depth-at setting interleaver ⌝ }
+    ensures { result ≡ depth_at setting interleaver }
 {
     match interleaver {
         0 => Some(setting.1),
@@ -78,8 +74,8 @@ fn depth(setting: Setting, interleaver: usize) -> Option<Depth>
 
 // What the numbers of an interleaver say: the frames share the sent bits.
 fn entry_of(rate: Rate, symbol_bits: usize, depth: Depth) -> Entry
-    requires { ⌜ 0 < depth .0 * «symbol_bits» ⌝ ∗ ⌜ depth .0 * «symbol_bits» ≤ 2211840 ⌝ }
-    ensures { λ r. ⌜ r ≡ entry-of rate «symbol_bits» depth ⌝ }
+    requires { (0 < depth.0 * symbol_bits) × (depth.0 * symbol_bits ≤ 2211840) }
+    ensures { result ≡ entry_of rate symbol_bits depth }
 {
     let Depth(frames, sent_length, block_length, increment) = depth;
     Entry {
@@ -96,8 +92,8 @@ fn entry_of(rate: Rate, symbol_bits: usize, depth: Depth) -> Entry
 impl Row {
     // What the standard says of this row, where it has it.
     pub fn entry(self) -> Option<Entry>
-        ensures value { λ r. ⌜ r ≡ row-entry self ⌝ }
-        ensures consistent { λ r. ⌜ found r (λ e. Consistent e) ⌝ }
+        ensures value { result ≡ row_entry self }
+        ensures consistent { IfSome result (λ e. Consistent e) }
     {
         let setting = setting(self)?;
         let depth = depth(setting, self.interleaver)?;

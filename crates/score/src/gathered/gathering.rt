@@ -1,21 +1,19 @@
 // How the values of a step are gathered, and taken into a score.
-ghost use mathlib.Core.Path.{_≡_};
-ghost use mathlib.Core.List.{[], _∷_, _++_};
-ghost use Prim.Native.Nat.{_+_, _*_, _/_, _<_};
-ghost use Rattle·plan.specs.Plans.{plan-scheme};
-ghost use Rattle·plan.specs.Scheme.{sent-length};
-ghost use Rattle·code.specs.Sending.{location as place-of};
-ghost use Rattle·score·specs.Blocks.{value-at, named, absorbed, absorbed-both};
-ghost use Rattle·score·specs.Gathered.{held, held-both, step-values-within};
-use crate::gathered::BitValues;
-use crate::gathered::StepValues;
+ghost use Rattle.std.specs.Prelude.{◌≡◌, ◌+◌, ◌*◌, ◌/◌, ◌<◌, [], ◌∷◌, ◌++◌};
+ghost use Rattle.plan.specs.Plans.{plan_scheme};
+ghost use Rattle.plan.specs.Scheme.{sent_length};
+ghost use Rattle.code.specs.Sending.{location as place_of};
+ghost use Rattle.score.specs.Blocks.{value_at, named, absorbed, absorbed_both};
+ghost use Rattle.score.specs.Gathered.{held, held_both, step_values_within};
+
+use crate::gathered::{BitValues, StepValues};
 use crate::kind::Kind;
 use code::location;
 use plan::Plan;
 
 impl BitValues {
     fn none() -> BitValues
-        ensures { λ r. ⌜ held r ≡ [] ⌝ ∗ ⌜ r .count ≡ 0 ⌝ }
+        ensures { (held result ≡ []) × (result.count ≡ 0) }
     {
         BitValues {
             items: [0; 32],
@@ -24,8 +22,8 @@ impl BitValues {
     }
 
     fn push(&mut self, value: i16)
-        requires { ⌜ now self .count < 32 ⌝ }
-        ensures { λ _. ⌜ held (now (self .exit)) ≡ held (now (self .entry)) ++ value ∷ [] ⌝ ∗ ⌜ now (self .exit) .count ≡ now (self .entry) .count + 1 ⌝ }
+        requires { self.old.count < 32 }
+        ensures { (held self.new ≡ held self.old ++ value ∷ []) × (self.new.count ≡ self.old.count + 1) }
     {
         self.items[self.count] = value;
         self.count += 1;
@@ -33,13 +31,13 @@ impl BitValues {
 
     // The values, in order.
     pub fn as_slice(&self) -> &[i16]
-        ensures { λ r. ⌜ now r ≡ held (now (self .entry)) ⌝ }
+        ensures { result.now ≡ held self.now }
     {
         &self.items[0..self.count]
     }
 
     fn absorb<K: Kind>(&self, kind: &K, bit: bool, score: K::Score) -> K::Score
-        ensures { λ r. ⌜ r ≡ absorbed (K·Kind .scale (now (kind .entry))) (held (now (self .entry))) bit score ⌝ }
+        ensures { result ≡ absorbed (K.Kind.scale kind.now) (held self.now) bit score }
     {
         absorb(kind, score, self.as_slice(), bit)
     }
@@ -47,7 +45,7 @@ impl BitValues {
 
 // The value of a location: -32,768 is read as -32,767, and past the end there is 0.
 fn read(memory: &[i16], location: usize) -> i16
-    ensures { λ r. ⌜ r ≡ value-at (now (memory .entry)) location ⌝ }
+    ensures { result ≡ value_at memory.now location }
 {
     match memory.get(location) {
         Some(value) => (*value).max(-32_767),
@@ -57,16 +55,16 @@ fn read(memory: &[i16], location: usize) -> i16
 
 // The value of a sent bit.
 fn value_of(plan: &Plan, memory: &[i16], n: usize) -> i16
-    requires { ⌜ n < sent-length (plan-scheme (now plan)) ⌝ }
-    ensures { λ r. ⌜ r ≡ value-at (now (memory .entry)) (place-of (plan-scheme (now (plan .entry))) n) ⌝ }
+    requires { n < sent_length (plan_scheme plan.now) }
+    ensures { result ≡ value_at memory.now (place_of (plan_scheme plan.now) n) }
 {
     read(memory, location(plan, n).unwrap())
 }
 
 // The values of the sent bits of this run of the send list whose entry is this one.
 fn named(plan: &Plan, memory: &[i16], run: usize, wanted: usize) -> BitValues
-    requires { ⌜ run < plan-scheme (now plan) .block / plan-scheme (now plan) .period ⌝ }
-    ensures { λ r. ⌜ held r ≡ named (plan-scheme (now (plan .entry))) (value-at (now (memory .entry))) run wanted ⌝ }
+    requires { run < (plan_scheme plan.now).block / (plan_scheme plan.now).period }
+    ensures { held result ≡ named (plan_scheme plan.now) (value_at memory.now) run wanted }
 {
     let list = plan.parts().send_list.as_slice();
     let mut found = BitValues::none();
@@ -80,7 +78,7 @@ fn named(plan: &Plan, memory: &[i16], run: usize, wanted: usize) -> BitValues
 
 // The values of step t of a block, gathered from the memory. Past the block there are none.
 pub fn gather(plan: &Plan, memory: &[i16], t: usize) -> StepValues
-    ensures { λ r. ⌜ held-both r ≡ step-values-within (plan-scheme (now (plan .entry))) (value-at (now (memory .entry))) t ⌝ }
+    ensures { held_both result ≡ step_values_within (plan_scheme plan.now) (value_at memory.now) t }
 {
     let parts = plan.parts();
     if t >= parts.block_length {
@@ -99,7 +97,7 @@ pub fn gather(plan: &Plan, memory: &[i16], t: usize) -> StepValues
 
 // The score extended by each value in turn, against one bit.
 pub fn absorb<K: Kind>(kind: &K, score: K::Score, values: &[i16], bit: bool) -> K::Score
-    ensures { λ r. ⌜ r ≡ absorbed (K·Kind .scale (now (kind .entry))) (now (values .entry)) bit score ⌝ }
+    ensures { result ≡ absorbed (K.Kind.scale kind.now) values.now bit score }
 {
     let mut score = score;
     for value in values {
@@ -111,7 +109,7 @@ pub fn absorb<K: Kind>(kind: &K, score: K::Score, values: &[i16], bit: bool) -> 
 impl StepValues {
     // The score extended by the values of the first bit, and then by those of the second.
     pub fn absorb<K: Kind>(&self, kind: &K, bits: (bool, bool), score: K::Score) -> K::Score
-        ensures { λ r. ⌜ r ≡ absorbed-both (K·Kind .scale (now (kind .entry))) (held-both (now (self .entry))) bits score ⌝ }
+        ensures { result ≡ absorbed_both (K.Kind.scale kind.now) (held_both self.now) bits score }
     {
         let StepValues { first, second } = self;
         let (b0, b1) = bits;

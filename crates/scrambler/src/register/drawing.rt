@@ -1,11 +1,11 @@
 // How a register is made, and how it draws its values.
-ghost use mathlib.Core.Path.{_≡_};
-ghost use Prim.Native.Nat.{_*_, _%_, _^_, _<_, _≤_};
-ghost use Rattle·plan.specs.Faults.{chain-number, outcome};
-ghost use Rattle·scrambler·specs.Meanings.{register-meaning};
-ghost use Rattle·scrambler·specs.Questions.{width-fits, making-answer};
-ghost use Rattle·scrambler·specs.Shifts.{fresh, shift, shifts, state-after, drawn-values};
-ghost use Rattle·std.specs.Vec.{made};
+ghost use Rattle.std.specs.Prelude.{◌≡◌, ◌*◌, ◌%◌, ◌^◌, ◌<◌, ◌≤◌, IfOk};
+ghost use Rattle.plan.specs.Faults.{chain_number, outcome};
+ghost use Rattle.scrambler.specs.Meanings.{register_meaning};
+ghost use Rattle.scrambler.specs.Questions.{width_fits, making_answer};
+ghost use Rattle.scrambler.specs.Shifts.{fresh, shift, shifts, state_after, drawn_values};
+ghost use Rattle.scrambler.specs.Bounds.{drawn_below};
+
 use crate::register::Register;
 use crate::scrambler::Scrambler;
 use crate::width::*;
@@ -17,8 +17,8 @@ const REACH: usize = 4096;
 impl Register {
     // The register that draws values of this width, where the width fits.
     pub fn new(width: usize) -> Result<Register, ChainFault>
-        ensures answer { λ r. ⌜ outcome chain-number r ≡ making-answer (width-fits width) ⌝ }
-        ensures made { λ r. ⌜ made r (λ m. register-meaning m ≡ record { width = width; values = drawn-values width }) ⌝ }
+        ensures answer { outcome chain_number result ≡ making_answer (width_fits width) }
+        ensures made { IfOk result (λ m. register_meaning m ≡ record { width = width; values = drawn_values width }) }
     {
         if !width_fits(width) {
             return Err(ChainFault::Scrambler);
@@ -32,8 +32,8 @@ impl Register {
 
     // The register at a place: shifted on from where it stands, or from the load where it stands past the place.
     fn state_at(&self, place: usize) -> u16
-        requires { ⌜ place < 4096 ⌝ }
-        ensures { λ r. ⌜ r ≡ state-after (place * now (self .entry) .width) ⌝ }
+        requires { place < 4096 }
+        ensures { result ≡ state_after (place * self.now.width) }
     {
         if place < self.place {
             shifted(1, place * self.width)
@@ -45,23 +45,23 @@ impl Register {
 
 // The bit that a shift brings in.
 fn fresh_bit(state: u16) -> u16
-    ensures { λ r. ⌜ r ≡ fresh state ⌝ }
+    ensures { result ≡ fresh state }
 {
     (state >> 8 ^ state >> 4) & 1
 }
 
 // The register after one shift.
 fn shifted_once(state: u16) -> u16
-    requires { ⌜ state < 512 ⌝ }
-    ensures { λ r. ⌜ r ≡ shift state ⌝ }
+    requires { state < 512 }
+    ensures { result ≡ shift state }
 {
     (state << 1 | fresh_bit(state)) & 511
 }
 
 // The register after some shifts.
 fn shifted(state: u16, count: usize) -> u16
-    requires { ⌜ state < 512 ⌝ }
-    ensures { λ r. ⌜ r ≡ shifts count state ⌝ }
+    requires { state < 512 }
+    ensures { result ≡ shifts count state }
 {
     let mut now = state;
     for _ in 0..count {
@@ -72,14 +72,16 @@ fn shifted(state: u16, count: usize) -> u16
 
 // The rightmost bits.
 fn low_bits(state: u16, width: usize) -> u8
-    requires { ⌜ width ≤ 8 ⌝ }
-    ensures { λ r. ⌜ r ≡ state % 2 ^ width ⌝ }
+    requires { width ≤ 8 }
+    ensures { result ≡ state % 2 ^ width }
 {
     (state & ((1 << width) - 1)) as u8
 }
 
-pub impl Scrambler for Register as RegisterScrambler {
-    ghost meaning = { register-meaning };
+impl Scrambler for Register {
+    ghost meaning = { register_meaning };
+
+    ghost bounded = { λ s. drawn_below s.width };
 
     fn width(&mut self) -> usize {
         self.width

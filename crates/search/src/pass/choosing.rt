@@ -1,8 +1,8 @@
 // The choice of the start number.
-ghost use mathlib.Core.Path.{_≡_};
-ghost use Prim.Native.Nat.{_^_, _<_};
-ghost use Rattle·trellis.specs.Choice.{final, winner};
-ghost use Rattle·search·specs.Stepping.{steps-of, Fits, Column-fits, Marks-fit};
+ghost use Rattle.std.specs.Prelude.{◌≡◌, ◌^◌, ◌<◌};
+ghost use Rattle.trellis.specs.Choice.{final, winner};
+ghost use Rattle.search.specs.Stepping.{steps_of, Fits, ColumnFits, MarksFit};
+
 use crate::pass::Pass;
 use score::Kind;
 use trellis::Column;
@@ -15,15 +15,15 @@ impl<'a, K: Kind> Pass<'a, K> {
         new: &mut Column<'c, K::Score>,
         marks: &mut [u8],
     ) -> (usize, K::Score)
-        requires fits { ⌜ Fits (now self) ⌝ }
-        requires old { ⌜ Column-fits (now self) (now (now old .scores)) ⌝ }
-        requires new { ⌜ Column-fits (now self) (now (now new .scores)) ⌝ }
-        requires marks { ⌜ Marks-fit (now self) (now marks) ⌝ }
-        ensures number { λ r. ⌜ r .0 ≡ winner (steps-of (K·Kind .scale (now (now (self .entry) .kind))) (now (self .entry))) (now (self .entry) .trellis .memory) (now (self .entry) .trellis .size) (2 ^ now (self .entry) .trellis .memory) ⌝ }
-        ensures below { λ r. ⌜ r .0 < 2 ^ now (self .entry) .trellis .memory ⌝ }
-        ensures score { λ r. ⌜ r .1 ≡ final (steps-of (K·Kind .scale (now (now (self .entry) .kind))) (now (self .entry))) (now (self .entry) .trellis .memory) (now (self .entry) .trellis .size) (r .0) ⌝ }
-        ensures old { λ _. ⌜ Column-fits (now (self .entry)) (now (now (old .exit) .scores)) ⌝ }
-        ensures new { λ _. ⌜ Column-fits (now (self .entry)) (now (now (new .exit) .scores)) ⌝ }
+        requires fits { Fits self.now }
+        requires old { ColumnFits self.now old.old.scores.now }
+        requires new { ColumnFits self.now new.old.scores.now }
+        requires marks { MarksFit self.now marks.old }
+        ensures number { result.0 ≡ winner (steps_of (K.Kind.scale self.now.kind.now) self.now) self.now.trellis.memory self.now.trellis.size (2 ^ self.now.trellis.memory) }
+        ensures below { result.0 < 2 ^ self.now.trellis.memory }
+        ensures score { result.1 ≡ final (steps_of (K.Kind.scale self.now.kind.now) self.now) self.now.trellis.memory self.now.trellis.size result.0 }
+        ensures old { ColumnFits self.now old.new.scores.now }
+        ensures new { ColumnFits self.now new.new.scores.now }
     {
         let mut lead = 0;
         let mut best = self.final_score(0, old, new, marks);
@@ -45,14 +45,14 @@ impl<'a, K: Kind> Pass<'a, K> {
         new: &mut Column<'c, K::Score>,
         marks: &mut [u8],
     ) -> K::Score
-        requires fits { ⌜ Fits (now self) ⌝ }
-        requires number { ⌜ number < 2 ^ now self .trellis .memory ⌝ }
-        requires old { ⌜ Column-fits (now self) (now (now old .scores)) ⌝ }
-        requires new { ⌜ Column-fits (now self) (now (now new .scores)) ⌝ }
-        requires marks { ⌜ Marks-fit (now self) (now marks) ⌝ }
-        ensures value { λ r. ⌜ r ≡ final (steps-of (K·Kind .scale (now (now (self .entry) .kind))) (now (self .entry))) (now (self .entry) .trellis .memory) (now (self .entry) .trellis .size) number ⌝ }
-        ensures old { λ _. ⌜ Column-fits (now (self .entry)) (now (now (old .exit) .scores)) ⌝ }
-        ensures new { λ _. ⌜ Column-fits (now (self .entry)) (now (now (new .exit) .scores)) ⌝ }
+        requires fits { Fits self.now }
+        requires number { number < 2 ^ self.now.trellis.memory }
+        requires old { ColumnFits self.now old.old.scores.now }
+        requires new { ColumnFits self.now new.old.scores.now }
+        requires marks { MarksFit self.now marks.old }
+        ensures value { result ≡ final (steps_of (K.Kind.scale self.now.kind.now) self.now) self.now.trellis.memory self.now.trellis.size number }
+        ensures old { ColumnFits self.now old.new.scores.now }
+        ensures new { ColumnFits self.now new.new.scores.now }
     {
         self.sweep(self.trellis.memory(), number, old, new, marks);
         old.at(number, self.kind.start())

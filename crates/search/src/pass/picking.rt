@@ -1,11 +1,11 @@
 // The block that wins.
-ghost use mathlib.Core.Path.{_≡_};
-ghost use Prim.Native.Nat.{_^_};
-ghost use Rattle·plan.specs.Plans.{plan-scheme};
-ghost use Rattle·score.specs.Blocks.{value-at};
-ghost use Rattle·trellis.specs.Choice.{final, winner};
-ghost use Rattle·search·specs.Looking.{shown};
-ghost use Rattle·search·specs.Stepping.{steps-of, Fits, Column-fits, Marks-fit};
+ghost use Rattle.std.specs.Prelude.{◌≡◌, ◌^◌};
+ghost use Rattle.plan.specs.Plans.{plan_scheme};
+ghost use Rattle.score.specs.Blocks.{value_at};
+ghost use Rattle.trellis.specs.Choice.{final, winner};
+ghost use Rattle.search.specs.Looking.{shown};
+ghost use Rattle.search.specs.Stepping.{steps_of, Fits, ColumnFits, MarksFit};
+
 use crate::pass::Pass;
 use score::Kind;
 use trellis::Column;
@@ -19,12 +19,12 @@ impl<'a, K: Kind> Pass<'a, K> {
         new: &mut Column<'c, K::Score>,
         marks: &mut [u8],
     ) -> K::Score
-        requires fits { ⌜ Fits (now self) ⌝ }
-        requires old { ⌜ Column-fits (now self) (now (now old .scores)) ⌝ }
-        requires new { ⌜ Column-fits (now self) (now (now new .scores)) ⌝ }
-        requires marks { ⌜ Marks-fit (now self) (now marks) ⌝ }
-        ensures block { λ _. ⌜ now (block .exit) ≡ shown (K·Kind .scale (now (now (self .entry) .kind))) (plan-scheme (now (now (self .entry) .plan))) (value-at (now (now (self .entry) .memory))) (now (block .entry)) ⌝ }
-        ensures score { λ r. ⌜ r ≡ final (steps-of (K·Kind .scale (now (now (self .entry) .kind))) (now (self .entry))) (now (self .entry) .trellis .memory) (now (self .entry) .trellis .size) (winner (steps-of (K·Kind .scale (now (now (self .entry) .kind))) (now (self .entry))) (now (self .entry) .trellis .memory) (now (self .entry) .trellis .size) (2 ^ now (self .entry) .trellis .memory)) ⌝ }
+        requires fits { Fits self.now }
+        requires old { ColumnFits self.now old.old.scores.now }
+        requires new { ColumnFits self.now new.old.scores.now }
+        requires marks { MarksFit self.now marks.old }
+        ensures block { block.new ≡ shown (K.Kind.scale self.now.kind.now) (plan_scheme self.now.plan.now) (value_at self.now.memory.now) block.old }
+        ensures score { result ≡ final (steps_of (K.Kind.scale self.now.kind.now) self.now) self.now.trellis.memory self.now.trellis.size (winner (steps_of (K.Kind.scale self.now.kind.now) self.now) self.now.trellis.memory self.now.trellis.size (2 ^ self.now.trellis.memory)) }
     {
         let (start, score) = self.winner(old, new, marks);
         self.sweep(self.trellis.memory(), start, old, new, marks);

@@ -1,14 +1,12 @@
 // How a pass goes round.
-ghost use mathlib.Core.Path.{_≡_};
-ghost use Prim.Native.Nat.{ℕ, _^_, _<_, _≤_};
-ghost use lib.ListN.{getD};
-ghost use Rattle·trellis.specs.Marks.{marked};
-ghost use Rattle·trellis.specs.Survivors.{prefix, survivor, mark};
-ghost use Rattle·search·specs.Stepping.{steps-of, Fits, Column-fits, Marks-fit};
+ghost use Rattle.std.specs.Prelude.{◌≡◌, ℕ, ◌^◌, ◌<◌, ◌≤◌, slice_index_or};
+ghost use Rattle.trellis.specs.Marks.{marked};
+ghost use Rattle.trellis.specs.Survivors.{prefix, survivor, mark};
+ghost use Rattle.search.specs.Stepping.{steps_of, Fits, ColumnFits, MarksFit};
+
 use crate::pass::Pass;
 use crate::step::Step;
-use score::Kind;
-use score::gather;
+use score::{Kind, gather};
 use trellis::Column;
 
 impl<'a, K: Kind> Pass<'a, K> {
@@ -21,15 +19,15 @@ impl<'a, K: Kind> Pass<'a, K> {
         new: &mut Column<'c, K::Score>,
         marks: &mut [u8],
     )
-        requires fits { ⌜ Fits (now self) ⌝ }
-        requires held { ⌜ held ≤ now self .trellis .memory ⌝ }
-        requires old { ⌜ Column-fits (now self) (now (now old .scores)) ⌝ }
-        requires new { ⌜ Column-fits (now self) (now (now new .scores)) ⌝ }
-        requires marks { ⌜ Marks-fit (now self) (now marks) ⌝ }
-        ensures scores { λ _. ⌜ ((s : ℕ) → s < 2 ^ now (self .entry) .trellis .memory → getD (now (now (old .exit) .scores)) s (K·Kind .scale (now (now (self .entry) .kind)) .start) ≡ survivor (steps-of (K·Kind .scale (now (now (self .entry) .kind))) (now (self .entry))) (now (self .entry) .trellis .memory) (prefix (now (self .entry) .trellis .memory) held number) (now (self .entry) .trellis .size) s) ⌝ }
-        ensures marks { λ _. ⌜ ((t s : ℕ) → t < now (self .entry) .trellis .size → s < 2 ^ now (self .entry) .trellis .memory → marked (now (self .entry) .trellis .memory) (now (marks .exit)) t s ≡ mark (steps-of (K·Kind .scale (now (now (self .entry) .kind))) (now (self .entry))) (now (self .entry) .trellis .memory) (prefix (now (self .entry) .trellis .memory) held number) t s) ⌝ }
-        ensures old { λ _. ⌜ Column-fits (now (self .entry)) (now (now (old .exit) .scores)) ⌝ }
-        ensures new { λ _. ⌜ Column-fits (now (self .entry)) (now (now (new .exit) .scores)) ⌝ }
+        requires fits { Fits self.now }
+        requires held { held ≤ self.now.trellis.memory }
+        requires old { ColumnFits self.now old.old.scores.now }
+        requires new { ColumnFits self.now new.old.scores.now }
+        requires marks { MarksFit self.now marks.old }
+        ensures scores { (s : ℕ) → s < 2 ^ self.now.trellis.memory → slice_index_or old.new.scores.now s (K.Kind.scale self.now.kind.now).start ≡ survivor (steps_of (K.Kind.scale self.now.kind.now) self.now) self.now.trellis.memory (prefix self.now.trellis.memory held number) self.now.trellis.size s }
+        ensures marks { (t s : ℕ) → t < self.now.trellis.size → s < 2 ^ self.now.trellis.memory → marked self.now.trellis.memory marks.new t s ≡ mark (steps_of (K.Kind.scale self.now.kind.now) self.now) self.now.trellis.memory (prefix self.now.trellis.memory held number) t s }
+        ensures old { ColumnFits self.now old.new.scores.now }
+        ensures new { ColumnFits self.now new.new.scores.now }
     {
         old.fill(self.kind.start());
         for t in 0..self.trellis.size() {
@@ -48,8 +46,8 @@ impl<'a, K: Kind> Pass<'a, K> {
 
 // The bit that is forced at step t: one of the first `held` of a number of `bits` bits.
 fn forced_bit(bits: usize, held: usize, number: usize, t: usize) -> Option<bool>
-    requires { ⌜ held ≤ bits ⌝ ∗ ⌜ bits ≤ 8 ⌝ }
-    ensures { λ r. ⌜ r ≡ prefix bits held number t ⌝ }
+    requires { (held ≤ bits) × (bits ≤ 8) }
+    ensures { result ≡ prefix bits held number t }
 {
     if t < held {
         Some((number >> (bits - 1 - t)) % 2 == 1)

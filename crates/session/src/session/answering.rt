@@ -1,23 +1,18 @@
 // How a session answers a line.
-ghost use mathlib.Core.List.{List};
-ghost use mathlib.Core.Path.{_≡_};
-ghost use Prim.Native.Nat.{ℕ};
-ghost use Rattle·lines.specs.Faults.{line-number};
-ghost use Rattle·lines.specs.Inputs.{kept-of};
-ghost use Rattle·lines.specs.declared.answer.Answer.the-variants.{Refused};
-ghost use Rattle·session·specs.Said.{Answers, Carries};
-ghost use Rattle·session·specs.Sessions.{held};
-ghost use Rattle·std.specs.Of.Vec.{vec-items};
+ghost use Rattle.std.specs.Prelude.{◌≡◌, ℕ, List};
+ghost use Rattle.lines.specs.Faults.{line_number};
+ghost use Rattle.lines.specs.Inputs.{kept_of};
+ghost use Rattle.lines.specs.declared.answer.Answer.TheVariants.{Refused};
+ghost use Rattle.session.specs.Said.{Answers, Carries};
+ghost use Rattle.session.specs.Sessions.{held};
+
 use crate::command_room::CommandRoom;
 use crate::session::Session;
-use lines::Answer;
-use lines::Line;
-use lines::LineFault;
-use lines::Room;
+use lines::{Answer, Line, LineFault, Room};
 
 // The answer that says why a line is refused.
 fn refusal(fault: LineFault, number: u16) -> Answer
-    ensures { λ r. ⌜ r ≡ Refused (line-number fault) number ⌝ }
+    ensures { result ≡ Refused (line_number fault) number }
 {
     Answer::Refused {
         number: fault.number(),
@@ -28,7 +23,7 @@ fn refusal(fault: LineFault, number: u16) -> Answer
 impl Session {
     // The answer to the line with this number.
     pub fn answer(&mut self, line: &Line, number: u16, reading: Room, room: CommandRoom) -> Answer
-        ensures { λ r. ⌜ ((text : List ℕ) → vec-items (now (line .entry) .kept) ≡ kept-of text → Answers (held (now (self .entry))) text number r (held (now (self .exit)))) ⌝ }
+        ensures { (text : List ℕ) → line.now.kept.items ≡ kept_of text → Answers (held self.old) text number result (held self.new) }
     {
         match self.carry_out_line(line, reading, room) {
             Ok(answer) => answer,
@@ -43,7 +38,7 @@ impl Session {
         reading: Room,
         room: CommandRoom,
     ) -> Result<Answer, LineFault>
-        ensures { λ r. ⌜ ((text : List ℕ) → vec-items (now (line .entry) .kept) ≡ kept-of text → Carries (held (now (self .entry))) text r (held (now (self .exit)))) ⌝ }
+        ensures { (text : List ℕ) → line.now.kept.items ≡ kept_of text → Carries (held self.old) text result (held self.new) }
     {
         let command = line.command(reading)?;
         self.carry_out(command, room)

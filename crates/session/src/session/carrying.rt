@@ -1,33 +1,25 @@
 // How a session carries a command out.
-ghost use mathlib.Core.Path.{_≡_};
-ghost use Rattle·lines.specs.Faults.{line-number};
-ghost use Rattle·lines.specs.declared.command.Command.the-variants.{Plan as PlanLine, Table as TableLine, Hear, Note, Blank, Look};
-ghost use Rattle·plan.specs.Faults.{outcome};
-ghost use Rattle·session·specs.Held.{answer, after, Replies};
-ghost use Rattle·session·specs.Sessions.{held};
-ghost use Rattle·std.specs.Vec.{made};
-ghost use Rattle·std.specs.declared.option.Option.the-variants.{None};
+ghost use Rattle.std.specs.Prelude.{◌≡◌, IfOk, None};
+ghost use Rattle.lines.specs.Faults.{line_number};
+ghost use Rattle.lines.specs.declared.command.Command.TheVariants.{Plan as PlanLine, Table as TableLine, Hear, Note, Blank, Look};
+ghost use Rattle.plan.specs.Faults.{outcome};
+ghost use Rattle.session.specs.Held.{answer, after, Replies};
+ghost use Rattle.session.specs.Sessions.{held};
+
 use crate::command_room::CommandRoom;
 use crate::session::Session;
 use crate::session::looking::look;
-use lines::Answer;
-use lines::Command;
-use lines::LineFault;
-use lines::LineFromChain;
-use lines::accept_plan;
-use plan::ListRoom;
-use plan::Parts;
+use lines::{Answer, Command, LineFault, accept_plan};
+use plan::{ListRoom, Parts};
 use receiver::Receiver;
 use scrambler::Table;
-use scrambler::TableScrambler;
 use sender::needed_width;
-use std::alloc::AllocError;
-use std::alloc::Global;
+use std::alloc::{AllocError, Global};
 
 impl Session {
     // Nothing is accepted yet.
     pub fn new(heap: Global) -> Result<Session, AllocError>
-        ensures { λ r. ⌜ made r (λ s. (held s .plan ≡ None) × (held s .receiver ≡ None)) ⌝ }
+        ensures { IfOk result (λ s. ((held s).plan ≡ None) × ((held s).receiver ≡ None)) }
     {
         let memory = vec![in heap; 0; 1024]?;
         let scores = vec![in heap; 0; 512]?;
@@ -43,9 +35,9 @@ impl Session {
 
     // Carries out a command. A refused one leaves everything as it was.
     pub fn carry_out(&mut self, command: Command, room: CommandRoom) -> Result<Answer, LineFault>
-        ensures answer { λ r. ⌜ outcome line-number r ≡ answer (held (now (self .entry))) command ⌝ }
-        ensures after { λ _. ⌜ held (now (self .exit)) ≡ after (held (now (self .entry))) command ⌝ }
-        ensures reply { λ r. ⌜ made r (λ a. Replies (held (now (self .entry))) command a) ⌝ }
+        ensures answer { outcome line_number result ≡ answer (held self.old) command }
+        ensures after { held self.new ≡ after (held self.old) command }
+        ensures reply { IfOk result (λ a. Replies (held self.old) command a) }
     {
         match command {
             Command::Plan(parts) => self.take_plan(parts),
@@ -62,9 +54,9 @@ impl Session {
     }
 
     fn take_plan(&mut self, parts: Parts) -> Result<Answer, LineFault>
-        ensures answer { λ r. ⌜ outcome line-number r ≡ answer (held (now (self .entry))) (PlanLine parts) ⌝ }
-        ensures after { λ _. ⌜ held (now (self .exit)) ≡ after (held (now (self .entry))) (PlanLine parts) ⌝ }
-        ensures reply { λ r. ⌜ made r (λ a. Replies (held (now (self .entry))) (PlanLine parts) a) ⌝ }
+        ensures answer { outcome line_number result ≡ answer (held self.old) (PlanLine parts) }
+        ensures after { held self.new ≡ after (held self.old) (PlanLine parts) }
+        ensures reply { IfOk result (λ a. Replies (held self.old) (PlanLine parts) a) }
     {
         let plan = accept_plan(parts)?;
         self.plan = Some(plan);
@@ -73,9 +65,9 @@ impl Session {
     }
 
     fn take_table(&mut self, values: Vec<u8>, room: CommandRoom) -> Result<Answer, LineFault>
-        ensures answer { λ r. ⌜ outcome line-number r ≡ answer (held (now (self .entry))) (TableLine values) ⌝ }
-        ensures after { λ _. ⌜ held (now (self .exit)) ≡ after (held (now (self .entry))) (TableLine values) ⌝ }
-        ensures reply { λ r. ⌜ made r (λ a. Replies (held (now (self .entry))) (TableLine values) a) ⌝ }
+        ensures answer { outcome line_number result ≡ answer (held self.old) (TableLine values) }
+        ensures after { held self.new ≡ after (held self.old) (TableLine values) }
+        ensures reply { IfOk result (λ a. Replies (held self.old) (TableLine values) a) }
     {
         let Some(plan) = &self.plan else {
             return Err(LineFault::Order);
@@ -87,9 +79,9 @@ impl Session {
     }
 
     fn hear(&mut self, place: usize, index: u8, weight: u16) -> Result<Answer, LineFault>
-        ensures answer { λ r. ⌜ outcome line-number r ≡ answer (held (now (self .entry))) (Hear place index weight) ⌝ }
-        ensures after { λ _. ⌜ held (now (self .exit)) ≡ after (held (now (self .entry))) (Hear place index weight) ⌝ }
-        ensures reply { λ r. ⌜ made r (λ a. Replies (held (now (self .entry))) (Hear place index weight) a) ⌝ }
+        ensures answer { outcome line_number result ≡ answer (held self.old) (Hear place index weight) }
+        ensures after { held self.new ≡ after (held self.old) (Hear place index weight) }
+        ensures reply { IfOk result (λ a. Replies (held self.old) (Hear place index weight) a) }
     {
         let Some(receiver) = &mut self.receiver else {
             return Err(LineFault::Order);
@@ -99,9 +91,9 @@ impl Session {
     }
 
     fn note(&mut self, location: usize, value: i16) -> Result<Answer, LineFault>
-        ensures answer { λ r. ⌜ outcome line-number r ≡ answer (held (now (self .entry))) (Note location value) ⌝ }
-        ensures after { λ _. ⌜ held (now (self .exit)) ≡ after (held (now (self .entry))) (Note location value) ⌝ }
-        ensures reply { λ r. ⌜ made r (λ a. Replies (held (now (self .entry))) (Note location value) a) ⌝ }
+        ensures answer { outcome line_number result ≡ answer (held self.old) (Note location value) }
+        ensures after { held self.new ≡ after (held self.old) (Note location value) }
+        ensures reply { IfOk result (λ a. Replies (held self.old) (Note location value) a) }
     {
         let Some(receiver) = &mut self.receiver else {
             return Err(LineFault::Order);
@@ -111,9 +103,9 @@ impl Session {
     }
 
     fn blank(&mut self, place: usize) -> Result<Answer, LineFault>
-        ensures answer { λ r. ⌜ outcome line-number r ≡ answer (held (now (self .entry))) (Blank place) ⌝ }
-        ensures after { λ _. ⌜ held (now (self .exit)) ≡ after (held (now (self .entry))) (Blank place) ⌝ }
-        ensures reply { λ r. ⌜ made r (λ a. Replies (held (now (self .entry))) (Blank place) a) ⌝ }
+        ensures answer { outcome line_number result ≡ answer (held self.old) (Blank place) }
+        ensures after { held self.new ≡ after (held self.old) (Blank place) }
+        ensures reply { IfOk result (λ a. Replies (held self.old) (Blank place) a) }
     {
         let Some(receiver) = &mut self.receiver else {
             return Err(LineFault::Order);
@@ -123,9 +115,9 @@ impl Session {
     }
 
     fn show(&mut self, room: CommandRoom) -> Result<Answer, LineFault>
-        ensures answer { λ r. ⌜ outcome line-number r ≡ answer (held (now (self .entry))) Look ⌝ }
-        ensures after { λ _. ⌜ held (now (self .exit)) ≡ after (held (now (self .entry))) Look ⌝ }
-        ensures reply { λ r. ⌜ made r (λ a. Replies (held (now (self .entry))) Look a) ⌝ }
+        ensures answer { outcome line_number result ≡ answer (held self.old) Look }
+        ensures after { held self.new ≡ after (held self.old) Look }
+        ensures reply { IfOk result (λ a. Replies (held self.old) Look a) }
     {
         let Some(receiver) = &self.receiver else {
             return Err(LineFault::Order);

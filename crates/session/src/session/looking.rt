@@ -1,21 +1,16 @@
 // How a receiver of the bench shows the best block.
-ghost use mathlib.Core.Bool.{true};
-ghost use mathlib.Core.Path.{_≡_};
-ghost use Rattle·lines.specs.Plans.{size-fits};
-ghost use Rattle·plan.specs.Faults.{chain-number, outcome};
-ghost use Rattle·plan.specs.Plans.{plan-scheme};
-ghost use Rattle·receiver.specs.Receivers.{view-of};
-ghost use Rattle·scrambler.specs.Meanings.{table-meaning};
-ghost use Rattle·session·specs.Held.{Shows};
-ghost use Rattle·std.specs.Of.Vec.{vec-len};
-ghost use Rattle·std.specs.Vec.{made};
-ghost use lib.ListN.{length};
+ghost use Rattle.std.specs.Prelude.{◌≡◌, true, length, IfOk, vec_len};
+ghost use Rattle.lines.specs.Plans.{size_fits};
+ghost use Rattle.plan.specs.Faults.{chain_number, outcome};
+ghost use Rattle.plan.specs.Plans.{plan_scheme};
+ghost use Rattle.receiver.specs.Receivers.{view_of};
+ghost use Rattle.scrambler.specs.Meanings.{table_meaning};
+ghost use Rattle.session.specs.Held.{Shows};
+
 use plan::ChainFault;
 use receiver::Receiver;
 use score::Total;
-use score::TotalKind;
 use scrambler::Table;
-use scrambler::TableScrambler;
 use trellis::Column;
 
 // Writes the best block, and answers its score. Half of the scores are one column, half the other.
@@ -26,13 +21,13 @@ pub(crate) fn look(
     scores: &mut [u64],
     marks: &mut [u8],
 ) -> Result<u64, ChainFault>
-    requires small { ⌜ size-fits (plan-scheme (now receiver .plan)) ≡ true ⌝ }
-    requires values { ⌜ length (now memory) ≡ 1024 ⌝ }
-    requires block { ⌜ length (now block) ≡ plan-scheme (now receiver .plan) .block ⌝ }
-    requires scores { ⌜ length (now scores) ≡ 512 ⌝ }
-    requires marks { ⌜ length (now marks) ≡ 8192 ⌝ }
-    ensures answer { λ r. ⌜ outcome chain-number r ≡ 0 ⌝ }
-    ensures shows { λ r. ⌜ made r (λ score. Shows (view-of table-meaning (now (receiver .entry))) (now (memory .entry)) score (now (block .exit))) ⌝ }
+    requires small { size_fits (plan_scheme receiver.now.plan) ≡ true }
+    requires values { length memory.now ≡ 1024 }
+    requires block { length block.old ≡ (plan_scheme receiver.now.plan).block }
+    requires scores { length scores.old ≡ 512 }
+    requires marks { length marks.old ≡ 8192 }
+    ensures answer { outcome chain_number result ≡ 0 }
+    ensures shows { IfOk result (λ score. Shows (view_of table_meaning receiver.now) memory.now score block.new) }
 {
     let (first, second) = scores.split_at_mut(256);
     let mut old = Column { scores: first };

@@ -1,15 +1,15 @@
 // What the shape of a trellis tells.
-ghost use mathlib.Core.Path.{_≡_};
-ghost use Prim.Native.Nat.{_-_, _*_, _/_, _^_};
-ghost use Rattle·plan.specs.Plans.{plan-scheme};
+ghost use Rattle.std.specs.Prelude.{◌≡◌, ◌-◌, ◌*◌, ◌/◌, ◌^◌};
+ghost use Rattle.plan.specs.Plans.{plan_scheme};
+
 use crate::trellis::Trellis;
 use plan::Plan;
 
 impl Trellis {
     // The trellis of a plan: a state has all bits of a window but one.
     pub fn of(plan: &Plan) -> Trellis
-        ensures memory { λ r. ⌜ r .memory ≡ plan-scheme (now (plan .entry)) .constraint - 1 ⌝ }
-        ensures size { λ r. ⌜ r .size ≡ plan-scheme (now (plan .entry)) .block ⌝ }
+        ensures memory { result.memory ≡ (plan_scheme plan.now).constraint - 1 }
+        ensures size { result.size ≡ (plan_scheme plan.now).block }
     {
         let parts = plan.parts();
         let row = if parts.constraint == 7 { 8 } else { 32 };
@@ -22,28 +22,28 @@ impl Trellis {
 
     // How many bits a state has.
     pub fn memory(self) -> usize
-        ensures { λ r. ⌜ r ≡ self .memory ⌝ }
+        ensures { result ≡ self.memory }
     {
         self.memory
     }
 
     // How many steps there are.
     pub fn size(self) -> usize
-        ensures { λ r. ⌜ r ≡ self .size ⌝ }
+        ensures { result ≡ self.size }
     {
         self.size
     }
 
     // How many states there are.
     pub fn states(self) -> usize
-        ensures { λ r. ⌜ r ≡ 2 ^ self .memory ⌝ }
+        ensures { result ≡ 2 ^ self.memory }
     {
         8 * self.row
     }
 
     // How many bytes hold the marks of every time and state.
     pub fn mark_bytes(self) -> usize
-        ensures { λ r. ⌜ r ≡ self .size * 2 ^ self .memory / 8 ⌝ }
+        ensures { result ≡ self.size * 2 ^ self.memory / 8 }
     {
         self.row * self.size
     }

@@ -1,11 +1,10 @@
 // The block that marks give, traced back from a state.
-ghost use mathlib.Core.Path.{_≡_};
-ghost use Prim.Native.Nat.{ℕ, _<_, _≤_};
-ghost use lib.ListN.{length, getD};
-ghost use Rattle·code.specs.Numbers.{digit};
-ghost use Rattle·trellis·specs.Choice.{back};
-ghost use Rattle·trellis·specs.Marks.{marked, overwritten};
-ghost use Rattle·trellis·specs.Survivors.{before};
+ghost use Rattle.std.specs.Prelude.{◌≡◌, ℕ, ◌<◌, ◌≤◌, length, slice_index};
+ghost use Rattle.code.specs.Numbers.{digit};
+ghost use Rattle.trellis.specs.Choice.{back};
+ghost use Rattle.trellis.specs.Marks.{marked, overwritten};
+ghost use Rattle.trellis.specs.Survivors.{before};
+
 use crate::trellis::Trellis;
 use crate::trellis::marks::put_byte;
 
@@ -13,9 +12,9 @@ impl Trellis {
     // Writes the bits that the marks give, from the last step into the state `end` back to the first.
     // Bytes past the block keep their contents.
     pub fn trace_back(self, marks: &[u8], end: usize, block: &mut [u8])
-        ensures after { λ _. ⌜ now (block .exit) ≡ overwritten (self .size) (back (self .memory) (marked (self .memory) (now (marks .entry))) (self .size) end) (now (block .entry)) ⌝ }
-        ensures bits { λ _. ⌜ ((i : ℕ) → i < self .size → i < length (now (block .entry)) → getD (now (block .exit)) i 0 ≡ digit (back (self .memory) (marked (self .memory) (now (marks .entry))) (self .size) end i)) ⌝ }
-        ensures rest { λ _. ⌜ ((i : ℕ) → self .size ≤ i → getD (now (block .exit)) i 0 ≡ getD (now (block .entry)) i 0) ⌝ }
+        ensures after { block.new ≡ overwritten self.size (back self.memory (marked self.memory marks.now) self.size end) block.old }
+        ensures bits { (i : ℕ) → i < self.size → i < length block.old → slice_index block.new i ≡ digit (back self.memory (marked self.memory marks.now) self.size end i) }
+        ensures rest { (i : ℕ) → self.size ≤ i → slice_index block.new i ≡ slice_index block.old i }
     {
         let mut state = end;
         for t in (0..self.size).rev() {
@@ -27,7 +26,7 @@ impl Trellis {
 
     // The state before the step into a state that shifts this bit out.
     pub fn before(self, bit: bool, state: usize) -> usize
-        ensures { λ r. ⌜ r ≡ before (self .memory) bit state ⌝ }
+        ensures { result ≡ before self.memory bit state }
     {
         if bit {
             4 * self.row + state / 2

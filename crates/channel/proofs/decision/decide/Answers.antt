@@ -1,13 +1,13 @@
-use Rattle·plan.specs.Plans.{plan-scheme}
-use Rattle·channel·proofs.Phases.{sendable-below}
-use Rattle·channel·proofs.decision.decide.Needs as need
+use Rattle.plan.specs.Plans.{plan_scheme}
+use Rattle.channel.proofs.Phases.{sendable_below}
+use Rattle.channel.proofs.decision.decide.Goals as goal
 
-pub returns : need.returns
+pub returns : goal.returns
 returns c =
-    let sendable = c .nearest-of-all-best .ensures in
+    let sendable = c.nearest-of-all-best.ensures in
     record {
       sendable = sendable;
-      phase = sendable-below (plan-scheme (c .args .plan .now) .bits) (c .args .value) _ (c .pre) sendable;
-      weight-low = c .weight-of .ensures .low;
-      weight-high = c .weight-of .ensures .high;
+      phase = sendable_below (plan_scheme c.args.plan.now).bits c.args.value _ c.requires sendable;
+      weight_low = c.weight-of.ensures.low;
+      weight_high = c.weight-of.ensures.high;
     }

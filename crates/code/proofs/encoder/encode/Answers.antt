@@ -1,13 +1,13 @@
-use borrow.Author.Needs.{needs}
-use Rattle·plan.specs.Plans.{plan-scheme}
-use Rattle·code·proofs.Pairs.{tail-biting}
-use Rattle·code·proofs.encoder.encode.Needs as need
+use Rattle.std.proofs.Common.{rules}
+use Rattle.plan.specs.Plans.{plan_scheme}
+use Rattle.code.proofs.Pairs.{tail_biting}
+use Rattle.code.proofs.encoder.encode.Goals as goal
 
-pub returns-then-not-is-block : need.returns-then-not-is-block
-returns-then-not-is-block c = record { answer = search needs; after = search needs; rotates = tail-biting (plan-scheme (c .args .plan .now)) }
+pub returns-then-not-is-block : goal.returns-then-not-is-block
+returns-then-not-is-block c = record { answer = search rules; after = search rules; rotates = tail_biting (plan_scheme c.args.plan.now) }
 
-pub returns-then-word-block : need.returns-then-word-block
-returns-then-word-block c = record { answer = search needs; after = search needs; rotates = tail-biting (plan-scheme (c .args .plan .now)) }
+pub returns-then-word-block : goal.returns-then-word-block
+returns-then-word-block c = record { answer = search rules; after = search rules; rotates = tail_biting (plan_scheme c.args.plan.now) }
 
-pub returns : need.returns
-returns c = record { answer = search needs; after = search needs; rotates = tail-biting (plan-scheme (c .args .plan .now)) }
+pub returns : goal.returns
+returns c = record { answer = search rules; after = search rules; rotates = tail_biting (plan_scheme c.args.plan.now) }

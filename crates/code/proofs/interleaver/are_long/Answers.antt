@@ -1,8 +1,7 @@
-use mathlib.Core.Path.{ap}
-use native.Mathlib.Omega.{arith}
-use Rattle·plan.specs.Plans.{plan-scheme}
-use Rattle·plan.proofs.Facts.{facts}
-use Rattle·code·proofs.interleaver.are_long.Needs as need
+use Rattle.std.proofs.Common.{ap, arith}
+use Rattle.plan.specs.Plans.{plan_scheme}
+use Rattle.plan.proofs.Facts.{facts}
+use Rattle.code.proofs.interleaver.are_long.Goals as goal
 
-pub mul-parts : need.mul-parts
-mul-parts c = omega (arith, facts (plan-scheme (c .args .plan .now)) (c .args .plan .now .accepted) .block-high, ap (λ p. p .«block_length») (c .parts .ensures))
+pub overflow-mul-parts : goal.overflow-mul-parts
+overflow-mul-parts c = omega (arith, (facts (plan_scheme c.args.plan.now) c.args.plan.now.accepted).block_high, ap (λ p. p.block_length) c.parts.ensures)

@@ -1,18 +1,13 @@
-use mathlib.Core.Bool.{false}
-use mathlib.Core.List.{_++_}
-use mathlib.Core.Path.{_≡_, refl, ap, subst, _∙_}
-use Prim.Native.Nat.{_≤_}
-use native.Mathlib.Omega.{arith}
-use lib.ListN.{drop}
-use Rattle·code·proofs.Filled.{Filled, filled-more, filled-all, filled-same}
-use Rattle·code·proofs.interleaver.clear.Needs as need
+use Rattle.std.proofs.Common.{◌≡◌, ◌≤◌, false, ◌++◌, drop, refl, ap, ◌∙◌, subst, arith}
+use Rattle.code.proofs.Filled.{Filled, filled_more, filled_all, filled_same}
+use Rattle.code.proofs.interleaver.clear.Goals as goal
 
-pub loop-i-again : need.loop-i-again
-loop-i-again c = filled-more (λ _. false) (c .loop-i .i) (c .args .array .now) (c .loop-i .array) false (c .loop-i .inv) refl
+pub loop-i-preserved : goal.loop-i-preserved
+loop-i-preserved c = filled_more (λ _. false) c.loop-i.i c.args.array.now c.loop-i.array false c.loop-i.invariant refl
 
-pub returns : need.returns
+pub returns : goal.returns
 returns c =
-    let all : c .loop-i .i ≡ c .args .count = omega arith in
-    filled-all (λ _. false) (c .args .count) (c .args .array .now) (c .loop-i .array) (c .pre)
-    (subst (λ n. Filled (λ _. false) n (c .args .array .now) (c .loop-i .array)) all (c .loop-i .inv))
-    ∙ ap (λ l. l ++ drop (c .args .count) (c .args .array .now)) (filled-same 0 (c .args .count) false)
+    let all : c.loop-i.i ≡ c.args.count = omega arith in
+    filled_all (λ _. false) c.args.count c.args.array.now c.loop-i.array c.requires
+    (subst (λ n. Filled (λ _. false) n c.args.array.now c.loop-i.array) all c.loop-i.invariant)
+    ∙ ap (λ l. l ++ drop c.args.count c.args.array.now) (filled_same 0 c.args.count false)

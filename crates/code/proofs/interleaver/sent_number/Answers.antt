@@ -1,30 +1,26 @@
-use mathlib.Core.Path.{_≡_, ap, _∙_}
-use Prim.Native.Nat.{_+_, _*_, _<_}
-use native.Mathlib.Omega.{arith}
-use lib.ListN.{length}
-use Rattle·std.specs.Of.Vec.{vec-len}
-use Rattle·plan.specs.Plans.{plan-scheme}
-use Rattle·plan.specs.Scheme.{sent-length}
-use Rattle·plan.proofs.Facts.{facts}
-use Rattle·code·proofs.Loading.{sent-below}
-use Rattle·code·proofs.interleaver.sent_number.Needs as need
-use Rattle·code·proofs.interleaver.sent_number.Needs.{After-len}
+use Rattle.std.proofs.Common.{◌≡◌, ◌+◌, ◌*◌, ◌<◌, length, vec_len, ap, ◌∙◌, arith}
+use Rattle.plan.specs.Plans.{plan_scheme}
+use Rattle.plan.specs.Scheme.{sent_length}
+use Rattle.plan.proofs.Facts.{facts}
+use Rattle.code.proofs.Loading.{sent_below}
+use Rattle.code.proofs.interleaver.sent_number.Goals as goal
+use Rattle.code.proofs.interleaver.sent_number.Goals.{After-len}
 
-same : (c : After-len) → c .args .run * c .len .result + c .args .i ≡ c .args .run * length (plan-scheme (c .args .plan .now) .entries) + c .args .i
+same : (c : After-len) → c.args.run * c.len.result + c.args.i ≡ c.args.run * length (plan_scheme c.args.plan.now).entries + c.args.i
 same c =
-    ap (λ m. c .args .run * m + c .args .i)
-    (c .len .ensures ∙ ap (λ p. vec-len (p .«send_list»)) (c .parts .ensures) ∙ c .args .plan .now .parts .«send_list» .ok .0)
+    ap (λ m. c.args.run * m + c.args.i)
+    (c.len.ensures ∙ ap (λ p. vec_len p.send_list) c.parts.ensures ∙ c.args.plan.now.parts.send_list.ok.0)
 
-below : (c : After-len) → c .args .run * c .len .result + c .args .i < sent-length (plan-scheme (c .args .plan .now))
+below : (c : After-len) → c.args.run * c.len.result + c.args.i < sent_length (plan_scheme c.args.plan.now)
 below c =
-    let s = plan-scheme (c .args .plan .now) in
-    omega (arith, same c, sent-below s (facts s (c .args .plan .now .accepted)) (c .args .run) (c .args .i) (c .pre .0) (c .pre .1))
+    let s = plan_scheme c.args.plan.now in
+    omega (arith, same c, sent_below s (facts s c.args.plan.now.accepted) c.args.run c.args.i c.requires.0 c.requires.1)
 
-pub mul-result : need.mul-result
-mul-result c = let s = plan-scheme (c .args .plan .now) in omega (arith, below c, facts s (c .args .plan .now .accepted) .sent-high)
+pub overflow-mul-result : goal.overflow-mul-result
+overflow-mul-result c = let s = plan_scheme c.args.plan.now in omega (arith, below c, (facts s c.args.plan.now.accepted).sent_high)
 
-pub add-result : need.add-result
-add-result c = let s = plan-scheme (c .args .plan .now) in omega (arith, below c, facts s (c .args .plan .now .accepted) .sent-high)
+pub overflow-add-result : goal.overflow-add-result
+overflow-add-result c = let s = plan_scheme c.args.plan.now in omega (arith, below c, (facts s c.args.plan.now.accepted).sent_high)
 
-pub returns : need.returns
+pub returns : goal.returns
 returns c = record { value = same c; bound = below c }

@@ -1,11 +1,8 @@
-use mathlib.Core.Path.{sym, ap, _∙_}
-use Prim.Native.Nat.{_≤_}
-use native.Mathlib.Omega.{arith}
-use lib.ListN.{length}
-use Rattle·std.proofs.shelf.Lists.{getD-past}
-use Rattle·code·proofs.mapping.phase_at.Needs as need
+use Rattle.std.proofs.Common.{◌≤◌, length, sym, ap, ◌∙◌, arith}
+use Rattle.std.proofs.lemmas.List.{get_or_past}
+use Rattle.code.proofs.mapping.phase_at.Goals as goal
 
-pub returns-else-place-list : need.returns-else-place-list
+pub returns-else-place-list : goal.returns-else-place-list
 returns-else-place-list c =
-    let past : length (c .args .list .now) ≤ c .args .place = omega arith in
-    sym (getD-past (c .args .list .now) (c .args .place) 0 past)
+    let past : length c.args.list.now ≤ c.args.place = omega arith in
+    sym (get_or_past c.args.list.now c.args.place 0 past)

@@ -1,10 +1,8 @@
-use borrow.Author.Needs.{needs}
-use mathlib.Core.Path.{_≡_, refl, sym}
-use lib.ListN.{length}
-use Rattle·std.proofs.shelf.Lists.{nil-from-length}
-use Rattle·lines·proofs.fields.read_look.Needs as need
+use Rattle.std.proofs.Common.{◌≡◌, length, sym, refl, rules}
+use Rattle.std.proofs.lemmas.List.{nil_from_length}
+use Rattle.lines.proofs.fields.read_look.Goals as goal
 
-pub returns : need.returns
+pub returns : goal.returns
 returns c =
-    let none : length (c .args .bytes .now) ≡ 0 = search needs in
-    (refl, tt, sym (nil-from-length (c .args .bytes .now) none))
+    let none : length c.args.bytes.now ≡ 0 = search rules in
+    (refl, tt, sym (nil_from_length c.args.bytes.now none))

@@ -1,41 +1,35 @@
-use borrow.Author.Needs.{needs}
-use native.Mathlib.Omega.{arith}
-use mathlib.Core.List.{_∷_, _++_}
-use mathlib.Core.Logic.{inl, inr, ⊎-elim}
-use mathlib.Core.Path.{_≡_, refl, ap}
-use Prim.Native.Nat.{_≤_}
-use lib.ListN.{length, getD, length-drop}
-use Rattle·std.proofs.shelf.Lists.{take-rest}
-use Rattle·std.proofs.shelf.Results.{err-from-errBy}
-use Rattle·lines·proofs.Fielded.{plan-long, three-first}
-use Rattle·lines·proofs.fields.read_plan.Needs as need
+use Rattle.std.proofs.Common.{◌≡◌, ◌≤◌, ◌∷◌, ◌++◌, length, get_or, refl, ap, inl, inr, ⊎_elim, arith, length-drop, rules}
+use Rattle.std.proofs.lemmas.List.{take_rest}
+use Rattle.std.proofs.lemmas.Result.{err_from_is_err_and}
+use Rattle.lines.proofs.Fielded.{plan_long, three_first}
+use Rattle.lines.proofs.fields.read_plan.Goals as goal
 
-pub returns-then-rest-entries : need.returns-then-rest-entries
+pub returns-then-rest-entries : goal.returns-then-rest-entries
 returns-then-rest-entries c = inr (
   refl,
   λ s.
-      let bytes = c .args .bytes .now in
-      omega (arith, plan-long bytes (s .0) (s .1), ap length (take-rest bytes 3), length-drop 3 bytes, c .if-rest-entries .taken, c .from-entries .ensures),
+      let bytes = c.args.bytes.now in
+      omega (arith, plan_long bytes s.0 s.1, ap length (take_rest bytes 3), length-drop 3 bytes, c.if-rest-entries.true, c.from-entries.ensures),
 )
 
-pub returns-in-Break-parts : need.returns-in-Break-parts
-returns-in-Break-parts c =
-    let p = err-from-errBy (c .from-residual .result) (c .from-residual .ensures .1) in
-    let bytes = c .args .bytes .now in
-    rw (p .1, p .2) (⊎-elim inl
+pub returns-in-err-parts : goal.returns-in-err-parts
+returns-in-err-parts c =
+    let p = err_from_is_err_and c.from-residual.result c.from-residual.ensures.1 in
+    let bytes = c.args.bytes.now in
+    rw (p.1, p.2) (⊎_elim inl
     (λ h. inr (
-      h .0,
+      h.0,
       λ s.
-          let nine : length (c .split-at .result .1 .now) ≡ 9 = omega (arith, plan-long bytes (s .0) (s .1), ap length (take-rest bytes 3), length-drop 3 bytes, c .split-at .ensures .back-len, c .from-entries .ensures) in
-          h .1 nine,
+          let nine : length c.split-at.result.1.now ≡ 9 = omega (arith, plan_long bytes s.0 s.1, ap length (take_rest bytes 3), length-drop 3 bytes, c.split-at.ensures.back_len, c.from-entries.ensures) in
+          h.1 nine,
     ))
-    (c .in-Break-parts .ensures tt))
+    c.in-err-parts.ensures)
 
-pub returns : need.returns
+pub returns : goal.returns
 returns c =
-    let bytes = c .args .bytes .now in
-    let long : 3 ≤ length bytes = search needs in (
+    let bytes = c.args.bytes.now in
+    let long : 3 ≤ length bytes = search rules in (
       refl,
-      c .in-Continue-parts .ensures tt .0,
-      cc (c .in-Continue-parts .ensures tt .1, three-first bytes long, c .split-at .ensures .front-len, c .split-at .ensures .places .0, c .from-entries .ensures),
+      c.in-ok-parts.ensures.0,
+      cc (c.in-ok-parts.ensures.1, three_first bytes long, c.split-at.ensures.front-len, c.split-at.ensures.by_index.0, c.from-entries.ensures),
     )

@@ -1,16 +1,14 @@
-use mathlib.Core.List.{_++_}
-use mathlib.Core.Path.{_≡_, refl, ap, _∙_}
-use Rattle·std.specs.Of.String.{string-bytes}
-use Rattle·std.proofs.shelf.Lists.{take-all}
-use Rattle·lines·specs.Hex.{hex}
-use Rattle·lines·proofs.Written.{hex-pushed}
-use Rattle·lines·proofs.hex.write_hex.Needs as need
+use Rattle.std.proofs.Common.{◌≡◌, ◌++◌, string_bytes, refl, ap, ◌∙◌}
+use Rattle.std.proofs.lemmas.List.{take_all}
+use Rattle.lines.specs.Hex.{hex}
+use Rattle.lines.proofs.Written.{hex_pushed}
+use Rattle.lines.proofs.hex.write_hex.Goals as goal
 
-pub loop-byte-again : need.loop-byte-again
-loop-byte-again c =
-    hex-pushed (string-bytes (c .args .text .now)) (string-bytes (c .loop-byte .text)) (string-bytes (c .write-byte .last .text)) (c .args .bytes .now) (c .loop-byte .byte-index)
-    (c .loop-byte-test .taken) (c .loop-byte .inv) (c .in-Continue-write-byte .ensures tt refl)
+pub loop-byte-preserved : goal.loop-byte-preserved
+loop-byte-preserved c =
+    hex_pushed (string_bytes c.args.text.now) (string_bytes c.loop-byte.text) (string_bytes c.write-byte.new.text) c.args.bytes.now c.loop-byte.byte-index
+    c.loop-byte-test.true c.loop-byte.invariant (c.in-ok-write-byte.ensures refl)
 
-pub returns : need.returns
+pub returns : goal.returns
 returns c = λ _.
-    c .loop-byte .inv ∙ ap (λ l. string-bytes (c .args .text .now) ++ hex l) (take-all (c .loop-byte .byte-index) (c .args .bytes .now) (c .loop-byte-test .left))
+    c.loop-byte.invariant ∙ ap (λ l. string_bytes c.args.text.now ++ hex l) (take_all c.loop-byte.byte-index c.args.bytes.now c.loop-byte-test.false)

@@ -1,5 +1,5 @@
-use Rattle·lines·proofs.Unique.{one-reading}
-use Rattle·lines·proofs.law.one_reading_holds.Needs as need
+use Rattle.lines.proofs.Unique.{one_reading}
+use Rattle.lines.proofs.law.one_reading_holds.Goals as goal
 
-pub returns : need.returns
-returns c = one-reading
+pub returns : goal.returns
+returns c = one_reading

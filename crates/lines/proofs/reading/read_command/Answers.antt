@@ -1,8 +1,6 @@
-use borrow.Author.Needs.{needs}
-use mathlib.Core.Path.{_≡_}
-use Rattle·std.specs.Of.Vec.{vec-items}
-use Rattle·lines·proofs.Fielded.{fitting-single, packed-single}
-use Rattle·lines·proofs.reading.read_command.Needs as need
+use Rattle.std.proofs.Common.{◌≡◌, vec_items, rules}
+use Rattle.lines.proofs.Fielded.{fitting_single, packed_single}
+use Rattle.lines.proofs.reading.read_command.Goals as goal
 
-pub returns-in-S : need.returns-in-S
-returns-in-S c = (search needs, fitting-single (vec-items (c .args .bytes)) (c .pre), packed-single (vec-items (c .args .bytes)) (c .pre))
+pub returns-in-S : goal.returns-in-S
+returns-in-S c = (search rules, fitting_single (vec_items c.args.bytes) c.requires, packed_single (vec_items c.args.bytes) c.requires)

@@ -1,23 +1,18 @@
-use native.Mathlib.Omega.{arith}
-use mathlib.Core.List.{_∷_, [], _++_, map, append-assoc}
-use mathlib.Core.Path.{_≡_, refl, sym, ap, _∙_}
-use Prim.Native.Nat.{ℕ, _+_, _*_, _/_}
-use lib.ListN.{length}
-use Rattle·std.specs.Iters.{counting}
-use Rattle·std.specs.Of.Vec.{vec-items}
-use Rattle·std.proofs.shelf.Counted.{map-counting-more}
-use Rattle·lines·specs.Answers.{bits-number}
-use Rattle·lines·proofs.writing.pack.Needs as need
+use Rattle.std.proofs.Common.{◌≡◌, ℕ, ◌+◌, ◌*◌, ◌/◌, [], ◌∷◌, ◌++◌, map, length, vec_items, sym, refl, ap, ◌∙◌, append_assoc, arith}
+use Rattle.std.specs.List.{range_with_len}
+use Rattle.std.proofs.lemmas.List.FromFn.{map-range_with_len_more}
+use Rattle.lines.specs.Answers.{bits_number}
+use Rattle.lines.proofs.writing.pack.Goals as goal
 
-pub loop-i-again : need.loop-i-again
-loop-i-again c =
-    let was = vec-items (c .args .bytes .now) in
-    let i = c .loop-i .i in
-    let f : ℕ → ℕ = λ n. bits-number (c .args .block .now) (8 * n) 8 in
-    c .in-Continue-push .ensures tt .items ∙ (λ x. c .loop-i .inv x ++ (c .octet .ensures x ∷ []))
-    ∙ append-assoc was (map f (counting 0 i)) (f i ∷ []) ∙ ap (λ l. was ++ l) (sym (map-counting-more f 0 i i (omega arith)))
+pub loop-i-preserved : goal.loop-i-preserved
+loop-i-preserved c =
+    let was = vec_items c.args.bytes.now in
+    let i = c.loop-i.i in
+    let f : ℕ → ℕ = λ n. bits_number c.args.block.now (8 * n) 8 in
+    c.in-ok-push.ensures.items ∙ (λ x. c.loop-i.invariant x ++ (c.octet.ensures x ∷ []))
+    ∙ append_assoc was (map f (range_with_len 0 i)) (f i ∷ []) ∙ ap (λ l. was ++ l) (sym (map-range_with_len_more f 0 i i (omega arith)))
 
-pub returns : need.returns
+pub returns : goal.returns
 returns c = λ _.
-    let all : c .loop-i .i ≡ (length (c .args .block .now) + 7) / 8 = omega (arith, c .div-ceil-i-end .ensures, c .loop-i-test .left) in
-    c .loop-i .inv ∙ ap (λ n. vec-items (c .args .bytes .now) ++ map (λ (k : ℕ). bits-number (c .args .block .now) (8 * k) 8) (counting 0 n)) all
+    let all : c.loop-i.i ≡ (length c.args.block.now + 7) / 8 = omega (arith, c.div-ceil-i-end.ensures, c.loop-i-test.false) in
+    c.loop-i.invariant ∙ ap (λ n. vec_items c.args.bytes.now ++ map (λ (k : ℕ). bits_number c.args.block.now (8 * k) 8) (range_with_len 0 n)) all

@@ -1,5 +1,5 @@
-use Rattle·receiver·proofs.Hearing.{made-fits, fit-lasts}
-use Rattle·receiver·proofs.laws.fit_lasts.Needs as need
+use Rattle.receiver.proofs.Hearing.{made_fits, fit_lasts}
+use Rattle.receiver.proofs.laws.fit_lasts.Goals as goal
 
-pub returns : need.returns
-returns c = record { made = made-fits; lasts = fit-lasts }
+pub returns : goal.returns
+returns c = record { made = made_fits; lasts = fit_lasts }

@@ -1,51 +1,48 @@
-use mathlib.Core.Path.{_≡_, ap, _∙_}
-use Prim.Native.Nat.{_-_, _/_, _<_, _≤_, min}
+use Rattle.std.proofs.Common.{◌≡◌, ◌-◌, ◌/◌, ◌<◌, ◌≤◌, min, length, ap, ◌∙◌, arith}
 use native.Mathlib.Nat.{sub-zero}
-use native.Mathlib.Omega.{arith}
-use lib.ListN.{length}
-use Rattle·plan.proofs.Facts.{facts}
-use Rattle·plan.specs.Faults.{chain-number, outcome}
-use Rattle·plan.specs.Plans.{plan-scheme}
-use Rattle·search.specs.Looking.{search-answer}
-use Rattle·replay·specs.Given.{given}
-use Rattle·replay·specs.Ledger.{lent-of}
-use Rattle·replay·proofs.Kept.{part-long}
-use Rattle·replay·proofs.Looked.{block-back, found-back}
-use Rattle·replay·proofs.looking.look_lent.Needs as need
+use Rattle.plan.proofs.Facts.{facts}
+use Rattle.plan.specs.Faults.{chain_number, outcome}
+use Rattle.plan.specs.Plans.{plan_scheme}
+use Rattle.search.specs.Looking.{search_answer}
+use Rattle.replay.specs.Given.{given}
+use Rattle.replay.specs.Ledger.{lent_of}
+use Rattle.replay.proofs.Kept.{part_long}
+use Rattle.replay.proofs.Looked.{block_back, found_back}
+use Rattle.replay.proofs.looking.look_lent.Goals as goal
 
-pub returns : need.returns
+pub returns : goal.returns
 returns g c =
-    let a = c .args in
-    let s = plan-scheme (a .receiver .now .plan) in
-    let k = g .K·Kind .scale (a .kind .now) in
-    let values = a .memory .now in
-    let block = a .block .now in
-    let whole = given values block (a .scores .now) (a .marks .now) in
-    let l = lent-of whole (a .lent) in
-    let count = c .min-values .result - 0 in
-    let n = c .min-size .result - 0 in
-    let lent-values : count ≡ min (a .lent .memory) (length values) = sub-zero (c .min-values .result) ∙ c .min-values .ensures in
-    let lent-block : n ≡ min (a .lent .block) (length block) = sub-zero (c .min-size .result) ∙ c .min-size .ensures in
-    let lent-marks : c .min-bytes .result - 0 ≡ min (a .lent .marks) (length (a .marks .now)) = sub-zero (c .min-bytes .result) ∙ c .min-bytes .ensures in
-    let first = c .split-at-mut-first .result .0 .now in
-    let second = c .split-at-mut-first .result .1 .now in
-    let scores = length (a .scores .now) in
-    let old-part : c .min-states .result - 0 ≡ min (a .lent .old) (length first) = sub-zero (c .min-states .result) ∙ c .min-states .ensures in
-    let new-part : c .min-ends .result - 0 ≡ min (a .lent .new) (length second) = sub-zero (c .min-ends .result) ∙ c .min-ends .ensures in
-    let rest : length second ≡ scores - scores / 2 = omega (arith, c .split-at-mut-first .ensures .back-len) in
-    let answered : outcome chain-number (c .look .result) ≡ search-answer s l =
-    c .look .ensures .answer
-    ∙ (λ x. search-answer s (record {
-      values = part-long count (a .lent .memory) values lent-values x;
-      block = part-long n (a .lent .block) block lent-block x;
-      old = (part-long (c .min-states .result - 0) (a .lent .old) first old-part ∙ ap (min (a .lent .old)) (c .split-at-mut-first .ensures .front-len)) x;
-      new = (part-long (c .min-ends .result - 0) (a .lent .new) second new-part ∙ ap (min (a .lent .new)) rest) x;
-      marks = part-long (c .min-bytes .result - 0) (a .lent .marks) (a .marks .now) lent-marks x;
+    let a = c.args in
+    let s = plan_scheme a.receiver.now.plan in
+    let k = g.K.Kind.scale a.kind.now in
+    let values = a.memory.now in
+    let block = a.block.now in
+    let whole = given values block a.scores.now a.marks.now in
+    let l = lent_of whole a.lent in
+    let count = c.min-values.result - 0 in
+    let n = c.min-size.result - 0 in
+    let lent_values : count ≡ min a.lent.memory (length values) = sub-zero c.min-values.result ∙ c.min-values.ensures in
+    let lent_block : n ≡ min a.lent.block (length block) = sub-zero c.min-size.result ∙ c.min-size.ensures in
+    let lent_marks : c.min-bytes.result - 0 ≡ min a.lent.marks (length a.marks.now) = sub-zero c.min-bytes.result ∙ c.min-bytes.ensures in
+    let first = c.split-at-mut-first.result.0.now in
+    let second = c.split-at-mut-first.result.1.now in
+    let scores = length a.scores.now in
+    let old_part : c.min-states.result - 0 ≡ min a.lent.old (length first) = sub-zero c.min-states.result ∙ c.min-states.ensures in
+    let new-part : c.min-ends.result - 0 ≡ min a.lent.new (length second) = sub-zero c.min-ends.result ∙ c.min-ends.ensures in
+    let rest : length second ≡ scores - scores / 2 = omega (arith, c.split-at-mut-first.ensures.back_len) in
+    let answered : outcome chain_number c.look.result ≡ search_answer s l =
+    c.look.ensures.answer
+    ∙ (λ x. search_answer s (record {
+      values = part_long count a.lent.memory values lent_values x;
+      block = part_long n a.lent.block block lent_block x;
+      old = (part_long (c.min-states.result - 0) a.lent.old first old_part ∙ ap (min a.lent.old) c.split-at-mut-first.ensures.front-len) x;
+      new = (part_long (c.min-ends.result - 0) a.lent.new second new-part ∙ ap (min a.lent.new) rest) x;
+      marks = part_long (c.min-bytes.result - 0) a.lent.marks a.marks.now lent_marks x;
     })) in
-    let low : 0 < s .block = omega (arith, facts s (a .receiver .now .plan .accepted) .block-low) in
+    let low : 0 < s.block = omega (arith, (facts s a.receiver.now.plan.accepted).block_low) in
     let room : n ≤ length block = omega arith in
     record {
       answer = answered;
-      found = found-back k s l n count values block (c .look .last .block) lent-block room lent-values low (c .look .result) answered (c .look .ensures .block) (c .look .ensures .found);
-      block = block-back k s l n count values block (c .look .last .block) lent-block room lent-values (c .look .result) answered (c .look .ensures .block);
+      found = found_back k s l n count values block c.look.new.block lent_block room lent_values low c.look.result answered c.look.ensures.block c.look.ensures.found;
+      block = block_back k s l n count values block c.look.new.block lent_block room lent_values c.look.result answered c.look.ensures.block;
     }

@@ -1,28 +1,22 @@
-use mathlib.Core.Bool.{true}
-use mathlib.Core.Path.{refl, ap}
-use mathlib.Core.List.{_++_}
-use Prim.Native.Nat.{_<_}
-use native.Mathlib.Omega.{arith}
-use lib.ListN.{length, drop}
-use Rattle·std.specs.Of.Vec.{vec-items}
-use Rattle·rows·specs.Patterns.{listed}
-use Rattle·rows·proofs.Listing.{listed-more, listed-all}
-use Rattle·rows·proofs.sending.columns_listed.Needs as need
+use Rattle.std.proofs.Common.{◌<◌, true, ◌++◌, length, drop, vec_items, refl, ap, arith}
+use Rattle.rows.specs.Patterns.{listed}
+use Rattle.rows.proofs.Listing.{listed_more, listed_all}
+use Rattle.rows.proofs.sending.columns_listed.Goals as goal
 
-pub loop-column-holds : need.loop-column-holds
-loop-column-holds c = ap (λ r. r ++ listed (c .args .repeats) 0 (c .args .first .now) (c .args .second .now)) (c .new-list .ensures .items)
+pub loop-column-init : goal.loop-column-init
+loop-column-init c = ap (λ r. r ++ listed c.args.repeats 0 c.args.first.now c.args.second.now) c.new-list.ensures.items
 
-pub loop-column-again : need.loop-column-again
-loop-column-again c =
-    let second : c .loop-column .column < length (c .args .second .now) = omega arith in
-    listed-more (vec-items (c .loop-column .list)) (vec-items (c .list-column .last .list)) _ (c .args .repeats)
-    (c .loop-column .column) (c .args .first .now) (c .args .second .now) (c .loop-column-test .taken) second
-    (c .in-Continue-list-column .ensures tt .listed (refl {a = true})) (c .loop-column .inv)
+pub loop-column-preserved : goal.loop-column-preserved
+loop-column-preserved c =
+    let second : c.loop-column.column < length c.args.second.now = omega arith in
+    listed_more (vec_items c.loop-column.list) (vec_items c.list-column.new.list) _ c.args.repeats
+    c.loop-column.column c.args.first.now c.args.second.now c.loop-column-test.true second
+    (c.in-ok-list-column.ensures.listed (refl {a = true})) c.loop-column.invariant
 
-pub returns : need.returns
+pub returns : goal.returns
 returns c = record {
   listed =
-      listed-all (vec-items (c .loop-column .list)) _ (c .args .repeats) (c .loop-column .column) (c .args .first .now)
-      (drop (c .loop-column .column) (c .args .second .now)) (c .loop-column-test .left) (c .loop-column .inv);
+      listed_all (vec_items c.loop-column.list) _ c.args.repeats c.loop-column.column c.args.first.now
+      (drop c.loop-column.column c.args.second.now) c.loop-column-test.false c.loop-column.invariant;
   refused = tt;
 }

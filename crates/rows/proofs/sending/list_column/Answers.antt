@@ -1,14 +1,12 @@
-use borrow.Author.Needs.{needs}
-use mathlib.Core.Path.{refl}
-use Rattle·std.specs.Of.Vec.{vec-items}
-use Rattle·rows·proofs.Listing.{column-all}
-use Rattle·rows·proofs.sending.list_column.Needs as need
+use Rattle.std.proofs.Common.{vec_items, refl, rules}
+use Rattle.rows.proofs.Listing.{column_all}
+use Rattle.rows.proofs.sending.list_column.Goals as goal
 
-pub returns : need.returns
+pub returns : goal.returns
 returns c = record {
   listed = λ h.
-      column-all (vec-items (c .args .list .now)) (vec-items (c .list-if-sent .last .list)) (vec-items (c .list-if-sent-2 .last .list))
-      (c .args .repeats) (c .args .column) (c .first-entry-entry .result) (c .args .first) (c .args .second)
-      (c .first-entry-entry .ensures) (c .in-Continue-list-if-sent .ensures tt .listed refl) (c .list-if-sent-2 .ensures .listed h);
-  refused = c .list-if-sent-2 .ensures .refused;
+      column_all (vec_items c.args.list.now) (vec_items c.list-if-sent.new.list) (vec_items c.list-if-sent-2.new.list)
+      c.args.repeats c.args.column c.first-entry-entry.result c.args.first c.args.second
+      c.first-entry-entry.ensures (c.in-ok-list-if-sent.ensures.listed refl) (c.list-if-sent-2.ensures.listed h);
+  refused = c.list-if-sent-2.ensures.refused;
 }

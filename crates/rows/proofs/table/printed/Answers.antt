@@ -1,7 +1,7 @@
-use borrow.Author.Needs.{needs}
-use Rattle·rows·specs.Table.{table}
-use Rattle·rows·proofs.table.printed.Needs as need
+use Rattle.std.proofs.Common.{rules}
+use Rattle.rows.specs.Table.{table}
+use Rattle.rows.proofs.table.printed.Goals as goal
 
-pub returns : need.returns
+pub returns : goal.returns
 unfolding table
-returns c = search needs
+returns c = search rules

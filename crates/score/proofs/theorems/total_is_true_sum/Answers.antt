@@ -1,5 +1,5 @@
-use Rattle·score·proofs.TrueSums.{total-is-true-sum, total-of-block}
-use Rattle·score·proofs.theorems.total_is_true_sum.Needs as need
+use Rattle.score.proofs.TrueSums.{total_is_true_sum, total_of_block}
+use Rattle.score.proofs.theorems.total_is_true_sum.Goals as goal
 
-pub returns : need.returns
-returns c = record { lists = total-is-true-sum; blocks = total-of-block }
+pub returns : goal.returns
+returns c = record { lists = total_is_true_sum; blocks = total_of_block }

@@ -1,39 +1,38 @@
-use mathlib.Core.Path.{sym, _∙_, ap}
-use Prim.Native.Nat.{_^_}
-use Rattle·std.proofs.shelf.Tests.{cond-true, true≢false}
-use Rattle·code.specs.Numbers.{bits-of}
-use Rattle·plan.specs.Plans.{plan-scheme}
-use Rattle·plan.proofs.Facts.{facts}
-use Rattle·score.specs.Blocks.{value-at}
-use Rattle·trellis.specs.Choice.{final, winner}
-use Rattle·search·specs.Searching.{memory, steps}
-use Rattle·search·proofs.Finding.{found, shown-bits}
-use Rattle·search·proofs.Rooms.{room}
-use Rattle·search·proofs.looking.search.Needs as need
+use Rattle.std.proofs.Common.{◌^◌, sym, ap, ◌∙◌}
+use Rattle.std.proofs.lemmas.Bool.{cond-true, true≢false}
+use Rattle.code.specs.Numbers.{bits_of}
+use Rattle.plan.specs.Plans.{plan_scheme}
+use Rattle.plan.proofs.Facts.{facts}
+use Rattle.score.specs.Blocks.{value_at}
+use Rattle.trellis.specs.Choice.{final, winner}
+use Rattle.search.specs.Searching.{memory, steps}
+use Rattle.search.proofs.Finding.{found, shown_bits}
+use Rattle.search.proofs.Rooms.{room}
+use Rattle.search.proofs.looking.search.Goals as goal
 
-pub pick-requires : need.pick-requires
-pick-requires g c κs =
-    let o = c .of .ensures in
-    let r = room (plan-scheme (c .args .plan .now)) (c .of .result .memory) (c .of .result .size) _ (o .memory) (o .size) (sym (c .if-not-has-room .ensures tt)) in
-    record { fits = (o .memory, o .size); old = r .old; new = r .new; marks = r .marks }
+pub pick-requires : goal.pick-requires
+pick-requires g c =
+    let o = c.of.ensures in
+    let r = room (plan_scheme c.args.plan.now) c.of.result.memory c.of.result.size _ o.memory o.size (sym c.if-not-has-room.ensures) in
+    record { fits = (o.memory, o.size); old = r.old; new = r.new; marks = r.marks }
 
-pub returns : need.returns
+pub returns : goal.returns
 returns g c =
-    let k = g .K·Kind .scale (c .args .kind .now) in
-    let p = c .args .plan .now in
-    let s = plan-scheme p in
-    let values = value-at (c .args .values .now) in
+    let k = g.K.Kind.scale c.args.kind.now in
+    let p = c.args.plan.now in
+    let s = plan_scheme p in
+    let values = value_at c.args.values.now in
     let st = steps k s values in
-    let o = c .of .ensures in
-    let long = sym (c .if-not-has-room .ensures tt) in
-    let r = room s (c .of .result .memory) (c .of .result .size) _ (o .memory) (o .size) long in
+    let o = c.of.ensures in
+    let long = sym c.if-not-has-room.ensures in
+    let r = room s c.of.result.memory c.of.result.size _ o.memory o.size long in
     record {
       answer = sym (cond-true _ _ _ long);
-      found = found k s values (g .K·Kind·met .lawful (c .args .kind .now)) (facts s (p .accepted)) _ (c .pick .result)
-          (λ i l. ap (λ bytes. bits-of bytes i) (c .pick .ensures .block) ∙ shown-bits k s values (c .args .block .now) i l (r .block))
-          (c .pick .ensures .score ∙ ap (λ m. final st m (c .of .result .size) (winner st m (c .of .result .size) (2 ^ m))) (o .memory)
-          ∙ ap (λ n. final st (memory s) n (winner st (memory s) n (2 ^ memory s))) (o .size));
-      block = c .pick .ensures .block;
+      found = found k s values (g.met.K.Kind.lawful c.args.kind.now) (facts s p.accepted) _ c.pick.result
+          (λ i l. ap (λ bytes. bits_of bytes i) c.pick.ensures.block ∙ shown_bits k s values c.args.block.now i l r.block)
+          (c.pick.ensures.score ∙ ap (λ m. final st m c.of.result.size (winner st m c.of.result.size (2 ^ m))) o.memory
+          ∙ ap (λ n. final st (memory s) n (winner st (memory s) n (2 ^ memory s))) o.size);
+      block = c.pick.ensures.block;
       old = λ e. absurd (true≢false e);
       new = λ e. absurd (true≢false e);
       marks = λ e. absurd (true≢false e);

@@ -1,11 +1,11 @@
-use borrow.Author.Needs.{needs}
-use Rattle·sender·specs.Scrambling.{unscrambled}
-use Rattle·sender·proofs.scrambling.unscramble.Needs as need
+use Rattle.std.proofs.Common.{rules}
+use Rattle.sender.specs.Scrambling.{unscrambled}
+use Rattle.sender.proofs.scrambling.unscramble.Goals as goal
 
-pub returns-then-bits-le3 : need.returns-then-bits-le3
+pub returns-then-bits-le3 : goal.returns-then-bits-le3
 unfolding unscrambled
-returns-then-bits-le3 c = search needs
+returns-then-bits-le3 c = search rules
 
-pub returns-else-bits-le3 : need.returns-else-bits-le3
+pub returns-else-bits-le3 : goal.returns-else-bits-le3
 unfolding unscrambled
-returns-else-bits-le3 c = search needs
+returns-else-bits-le3 c = search rules

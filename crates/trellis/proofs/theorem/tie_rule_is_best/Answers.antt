@@ -1,5 +1,5 @@
-use Rattle·trellis·proofs.Start.{picked-is-best}
-use Rattle·trellis·proofs.theorem.tie_rule_is_best.Needs as need
+use Rattle.trellis.proofs.Start.{picked_is_best}
+use Rattle.trellis.proofs.theorem.tie_rule_is_best.Goals as goal
 
-pub returns : need.returns
-returns g c = picked-is-best
+pub returns : goal.returns
+returns g c = picked_is_best

@@ -1,19 +1,17 @@
-use mathlib.Core.Path.{_≡_, refl, sym, ap, _∙_}
-use native.Mathlib.Numerals.{add-one}
-use native.Mathlib.Omega.{arith}
-use Rattle·channel·specs.Drawing.{stepped, state-after}
-use Rattle·channel·proofs.generator.Generator.draw_normal.Needs as need
+use Rattle.std.proofs.Common.{◌≡◌, sym, refl, ap, ◌∙◌, add-one, arith}
+use Rattle.channel.specs.Drawing.{stepped, state_after}
+use Rattle.channel.proofs.generator.Generator.draw_normal.Goals as goal
 
-pub loop-i-holds : need.loop-i-holds
-loop-i-holds c = refl
+pub loop-i-init : goal.loop-i-init
+loop-i-init c = refl
 
-pub loop-i-again : need.loop-i-again
-loop-i-again c =
-    let seed = c .args .self .now .state in
-    c .draw-fraction-sum .ensures .after ∙ ap stepped (c .loop-i .inv) ∙ sym (ap (λ n. state-after n seed) (add-one (c .loop-i .-i)))
+pub loop-i-preserved : goal.loop-i-preserved
+loop-i-preserved c =
+    let seed = c.args.self.now.state in
+    c.draw-fraction-sum.ensures.after ∙ ap stepped c.loop-i.invariant ∙ sym (ap (λ n. state_after n seed) (add-one c.loop-i.-i))
 
-pub returns : need.returns
+pub returns : goal.returns
 returns c =
-    let seed = c .args .self .now .state in
-    let all : c .loop-i .-i ≡ 12 = omega (arith, c .loop-i-test .left, c .loop-i .kept) in
-    record { after = c .loop-i .inv ∙ ap (λ n. state-after n seed) all }
+    let seed = c.args.self.now.state in
+    let all : c.loop-i.-i ≡ 12 = omega (arith, c.loop-i-test.false, c.loop-i.auto) in
+    record { after = c.loop-i.invariant ∙ ap (λ n. state_after n seed) all }

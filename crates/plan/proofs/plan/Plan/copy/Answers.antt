@@ -1,12 +1,10 @@
-use native.Mathlib.Omega.{arith}
-use lib.ListN.{length}
-use mathlib.Core.Path.{ap, subst}
-use Rattle·plan·specs.Plans.{plan-scheme}
-use Rattle·plan·proofs.Facts.{facts}
-use Rattle·plan·proofs.plan.Plan.copy.Needs as need
+use Rattle.std.proofs.Common.{length, ap, subst, arith}
+use Rattle.plan.specs.Plans.{plan_scheme}
+use Rattle.plan.proofs.Facts.{facts}
+use Rattle.plan.proofs.plan.Plan.copy.Goals as goal
 
-pub copied-send-list-requires : need.copied-send-list-requires
-copied-send-list-requires c κs =
-    let few = facts (plan-scheme (c .args .self .now)) (c .args .self .now .accepted) .entries-high in
-    let same = ap length (c .as-slice .ensures .value) in
+pub copied-send-list-requires : goal.copied-send-list-requires
+copied-send-list-requires c =
+    let few = (facts (plan_scheme c.args.self.now) c.args.self.now.accepted).entries_high in
+    let same = ap length c.as-slice.ensures.value in
     omega (arith, few, same)

@@ -1,6 +1,6 @@
-use Rattle·plan·specs.Plans.{plan-scheme}
-use Rattle·plan·proofs.Facts.{facts}
-use Rattle·plan·proofs.plan.Plan.symbols.Needs as need
+use Rattle.plan.specs.Plans.{plan_scheme}
+use Rattle.plan.proofs.Facts.{facts}
+use Rattle.plan.proofs.plan.Plan.symbols.Goals as goal
 
-pub div-result : need.div-result
-div-result c = facts (plan-scheme (c .args .self .now)) (c .args .self .now .accepted) .bits-low
+pub nonzero-div-result : goal.nonzero-div-result
+nonzero-div-result c = (facts (plan_scheme c.args.self.now) c.args.self.now.accepted).bits_low

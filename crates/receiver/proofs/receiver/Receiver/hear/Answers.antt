@@ -1,41 +1,36 @@
-use mathlib.Core.Path.{_≡_, sym, ap, _∙_}
-use Prim.Native.Nat.{_≤_, _*_}
-use native.Mathlib.Omega.{arith}
-use lib.ListN.{length}
-use Rattle·std.specs.Options.{isSome, valueOr}
-use Rattle·std.specs.declared.option.Option.the-variants.{Some}
-use Rattle·std.proofs.shelf.Tests.{and-parts, leb-true}
-use Rattle·plan.specs.Plans.{plan-scheme}
-use Rattle·plan.specs.Scheme.{sent-length}
-use Rattle·plan.proofs.Facts.{facts}
-use Rattle·code.specs.Numbers.{bit-of}
-use Rattle·receiver·specs.Receivers.{view}
-use Rattle·receiver·specs.Values.{heard, signed, with-values}
-use Rattle·receiver·proofs.Hearing.{hear-accepted}
-use Rattle·receiver·proofs.receiver.Receiver.hear.Needs as need
+use Rattle.std.proofs.Common.{◌≡◌, ◌*◌, ◌≤◌, length, is_some, Some, unwrap_or, sym, ap, ◌∙◌, arith}
+use Rattle.std.proofs.lemmas.Bool.{and_parts, leb-true}
+use Rattle.plan.specs.Plans.{plan_scheme}
+use Rattle.plan.specs.Scheme.{sent_length}
+use Rattle.plan.proofs.Facts.{facts}
+use Rattle.code.specs.Numbers.{bit_of}
+use Rattle.receiver.specs.Receivers.{view}
+use Rattle.receiver.specs.Values.{heard, signed, with_values}
+use Rattle.receiver.proofs.Hearing.{hear_accepted}
+use Rattle.receiver.proofs.receiver.Receiver.hear.Goals as goal
 
-pub set-bits-requires : need.set-bits-requires
-set-bits-requires g c κs =
-    let s = plan-scheme (c .args .self .now .plan) in
-    let known = facts s (c .args .self .now .plan .accepted) in
-    let q = ap (λ p. p .«symbol_bits») (c .parts .ensures) in
-    let lent = leb-true (sent-length s) (length (c .args .memory .now)) (sym (c .if-not-is-lent .ensures tt)) in
-    let weight = leb-true (c .args .weight) 32767 (and-parts _ _ (sym (c .if-not-fits-index .ensures tt)) .1) in
-    (omega (arith, q, lent, c .first-location .ensures .room), (omega (arith, q, known .bits-high), weight))
+pub set-bits-requires : goal.set-bits-requires
+set-bits-requires g c =
+    let s = plan_scheme c.args.self.now.plan in
+    let known = facts s c.args.self.now.plan.accepted in
+    let q = ap (λ p. p.symbol_bits) c.parts.ensures in
+    let lent = leb-true (sent_length s) (length c.args.memory.now) (sym c.if-not-is-lent.ensures) in
+    let weight = leb-true c.args.weight 32767 (and_parts _ _ (sym c.if-not-fits-index.ensures)).1 in
+    (omega (arith, q, lent, c.first-location.ensures.room), (omega (arith, q, known.bits_high), weight))
 
-pub returns : need.returns
+pub returns : goal.returns
 returns g c =
-    let plan = c .args .self .now .plan in
-    let s = plan-scheme plan in
-    let m = g .S·Scrambler .meaning (c .args .self .now .scrambler) in
-    let place = c .args .place in
-    let found : Some (c .in-Some .number) ≡ heard (view plan m) place (c .args .index) =
-    sym (c .in-Some .is) ∙ c .number-heard .ensures .value ∙ ap (λ n. heard (view plan n) place (c .args .index)) (c .fits-2 .ensures .kept) in
-    let q = ap (λ p. p .«symbol_bits») (c .parts .ensures) in
+    let plan = c.args.self.now.plan in
+    let s = plan_scheme plan in
+    let m = g.S.Scrambler.meaning c.args.self.now.scrambler in
+    let place = c.args.place in
+    let found : Some c.in-Some.number ≡ heard (view plan m) place c.args.index =
+    sym c.in-Some.is ∙ c.number_heard.ensures.value ∙ ap (λ n. heard (view plan n) place c.args.index) c.fits.ensures.kept in
+    let q = ap (λ p. p.symbol_bits) c.parts.ensures in
     record {
-      answer = sym (hear-accepted (view plan m) (length (c .args .memory .now)) place (c .args .index) (c .args .weight)
-          (sym (c .if-not-fits .ensures tt .answer)) (sym (c .if-not-is-lent .ensures tt)) (sym (c .if-not-is-sent .ensures tt)) (sym (c .if-not-fits-index .ensures tt)) (sym (ap isSome found)));
-      after = c .set-bits .ensures
-          ∙ (λ x. with-values (c .args .memory .now) (c .first-location .ensures .value x) (λ i. signed (c .args .weight) (bit-of (q x) (valueOr (found x) 0) i)) (q x));
-      kept = ap (view plan) (c .number-heard .ensures .kept ∙ c .fits-2 .ensures .kept);
+      answer = sym (hear_accepted (view plan m) (length c.args.memory.now) place c.args.index c.args.weight
+          (sym c.if-not-fits.ensures.answer) (sym c.if-not-is-lent.ensures) (sym c.if-not-is-sent.ensures) (sym c.if-not-fits-index.ensures) (sym (ap is_some found)));
+      after = c.set-bits.ensures
+          ∙ (λ x. with_values c.args.memory.now (c.first-location.ensures.value x) (λ i. signed c.args.weight (bit_of (q x) (unwrap_or (found x) 0) i)) (q x));
+      kept = ap (view plan) (c.number_heard.ensures.kept ∙ c.fits.ensures.kept);
     }

@@ -1,12 +1,12 @@
-use mathlib.Core.Path.{sym, _∙_}
-use Rattle·plan.specs.Parts.{scheme}
-use Rattle·rows·specs.Schemes.{entry-scheme}
-use Rattle·rows·proofs.Refusals.{not-refused}
-use Rattle·rows·proofs.row.Row.plan.Needs as need
+use Rattle.std.proofs.Common.{sym, ◌∙◌}
+use Rattle.plan.specs.Parts.{scheme}
+use Rattle.rows.specs.Schemes.{entry_scheme}
+use Rattle.rows.proofs.Refusals.{not_refused}
+use Rattle.rows.proofs.row.Row.plan.Goals as goal
 
 -- the entry's scheme passes every question
-pub returns-in-Break-new : need.returns-in-Break-new
-returns-in-Break-new c =
-    absurd (not-refused (c .in-Break-new .field-0 .0) (scheme (c .in-Continue-parts-of .field-0)) (entry-scheme (c .in-Some .entry) (c .args .constraint))
-    (c .in-Break-new .ensures tt .answer) (c .in-Continue-parts-of .ensures tt .made)
-    (c .in-Some .ensures tt .consistent .passes (c .args .constraint) (sym (c .if-not-is-constraint .ensures tt))))
+pub returns-in-err-new : goal.returns-in-err-new
+returns-in-err-new c =
+    absurd (not_refused c.in-err-new.field-0.0 (scheme c.in-ok-parts-of.field-0) (entry_scheme c.in-Some.entry c.args.constraint)
+    c.in-err-new.ensures.answer c.in-ok-parts-of.ensures.made
+    (c.in-Some.ensures.consistent.passes c.args.constraint (sym c.if-not-is-constraint.ensures)))

@@ -1,16 +1,11 @@
-use borrow.Author.Needs.{needs}
-use mathlib.Core.Path.{refl, ap, _∙_}
-use mathlib.Core.List.{[], _∷_, _++_}
-use mir.Syntax.{w16}
-use Prim.Native.Nat.{_<_}
-use lib.ListN.{length, take}
-use Rattle·std.proofs.shelf.Lists.{take-more-set}
-use Rattle·std.proofs.shelf.Signed.{toZ-ofZ}
-use Rattle·score·proofs.gathered.BitValues.push.Needs as need
+use Rattle.std.proofs.Common.{◌<◌, [], ◌∷◌, ◌++◌, length, take, refl, ap, ◌∙◌, w16, rules}
+use Rattle.std.proofs.lemmas.List.{take_more_set}
+use Rattle.std.proofs.lemmas.Int.{to_z-of_z}
+use Rattle.score.proofs.gathered.BitValues.push.Goals as goal
 
-pub returns : need.returns
+pub returns : goal.returns
 returns c =
-    let xs = c .args .self .now .items in
-    let n = c .args .self .now .count in
-    let b : n < length xs = search needs in
-    (take-more-set xs n _ b ∙ ap (λ v. take n xs ++ (v ∷ [])) (toZ-ofZ w16 (c .args .value) (c .fits .value)), refl)
+    let xs = c.args.self.now.items in
+    let n = c.args.self.now.count in
+    let b : n < length xs = search rules in
+    (take_more_set xs n _ b ∙ ap (λ v. take n xs ++ (v ∷ [])) (to_z-of_z w16 c.args.value c.ranges.value), refl)

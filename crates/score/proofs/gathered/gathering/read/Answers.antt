@@ -1,13 +1,9 @@
-use borrow.Author.Needs.{needs}
-use mathlib.Core.Path.{sym, ap}
-use Prim.Native.Nat.{_≤_}
-use lib.ListN.{length}
-use lib.IntN.{pos, negsuc}
-use Rattle·std.specs.Numbers.{maxZ}
-use Rattle·std.proofs.shelf.Lists.{getD-past}
-use Rattle·score·proofs.gathered.gathering.read.Needs as need
+use Rattle.std.proofs.Common.{◌≤◌, length, pos, negsuc, sym, ap, rules}
+use Rattle.std.specs.Int.{int_max}
+use Rattle.std.proofs.lemmas.List.{get_or_past}
+use Rattle.score.proofs.gathered.gathering.read.Goals as goal
 
-pub returns-in-None : need.returns-in-None
+pub returns-in-None : goal.returns-in-None
 returns-in-None c =
-    let h : length (c .args .memory .now) ≤ c .args .location = search needs in
-    sym (ap (λ v. maxZ v (negsuc 32766)) (getD-past (c .args .memory .now) (c .args .location) (pos 0) h))
+    let h : length c.args.memory.now ≤ c.args.location = search rules in
+    sym (ap (λ v. int_max v (negsuc 32766)) (get_or_past c.args.memory.now c.args.location (pos 0) h))

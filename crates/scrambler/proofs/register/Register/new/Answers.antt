@@ -1,6 +1,6 @@
-use mathlib.Core.Path.{sym}
-use Rattle·scrambler·proofs.Shifting.{loaded}
-use Rattle·scrambler·proofs.register.Register.new.Needs as need
+use Rattle.std.proofs.Common.{sym}
+use Rattle.scrambler.proofs.Shifting.{loaded}
+use Rattle.scrambler.proofs.register.Register.new.Goals as goal
 
-pub ghost-result : need.ghost-result
-ghost-result c = (sym (c .if-not-width-fits .ensures tt), (sym (loaded (c .args .width)), tt))
+pub invariant-of-result : goal.invariant-of-result
+invariant-of-result c = (sym c.if-not-width-fits.ensures, (sym (loaded c.args.width), tt))

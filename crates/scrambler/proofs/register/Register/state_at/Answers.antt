@@ -1,15 +1,14 @@
-use mathlib.Core.Path.{ap, _∙_}
-use Prim.Native.Nat.{_-_, _*_}
-use Rattle·scrambler·specs.Shifts.{shifts}
-use Rattle·scrambler·proofs.Shifting.{onward, state-below}
-use Rattle·scrambler·proofs.register.Register.state_at.Needs as need
+use Rattle.std.proofs.Common.{◌-◌, ◌*◌, ap, ◌∙◌}
+use Rattle.scrambler.specs.Shifts.{shifts}
+use Rattle.scrambler.proofs.Shifting.{onward, state_below}
+use Rattle.scrambler.proofs.register.Register.state_at.Goals as goal
 
-pub shifted-requires-else-place-self : need.shifted-requires-else-place-self
-shifted-requires-else-place-self c κs = rw (c .args .self .now .stands) (state-below _)
+pub shifted-requires-else-place-self : goal.shifted-requires-else-place-self
+shifted-requires-else-place-self c = rw c.args.self.now.stands (state_below _)
 
-pub returns-else-place-self : need.returns-else-place-self
+pub returns-else-place-self : goal.returns-else-place-self
 returns-else-place-self c =
-    let register = c .args .self .now in
-    c .shifted-else-place-self .ensures
-    ∙ ap (shifts ((c .args .place - register .place) * register .width)) (register .stands)
-    ∙ onward (register .width) (register .place) (c .args .place) (c .if-place-self .left)
+    let register = c.args.self.now in
+    c.shifted-else-place-self.ensures
+    ∙ ap (shifts ((c.args.place - register.place) * register.width)) register.stands
+    ∙ onward register.width register.place c.args.place c.if-place-self.false

@@ -1,5 +1,5 @@
-use Rattle·scrambler·proofs.Shifting.{fresh-coded}
-use Rattle·scrambler·proofs.register.drawing.fresh_bit.Needs as need
+use Rattle.scrambler.proofs.Shifting.{fresh_coded}
+use Rattle.scrambler.proofs.register.drawing.fresh_bit.Goals as goal
 
-pub returns : need.returns
-returns c = fresh-coded (c .args .state)
+pub returns : goal.returns
+returns c = fresh_coded c.args.state

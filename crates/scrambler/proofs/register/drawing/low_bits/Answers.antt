@@ -1,5 +1,5 @@
-use Rattle·scrambler·proofs.Shifting.{low-coded}
-use Rattle·scrambler·proofs.register.drawing.low_bits.Needs as need
+use Rattle.scrambler.proofs.Shifting.{low_coded}
+use Rattle.scrambler.proofs.register.drawing.low_bits.Goals as goal
 
-pub returns : need.returns
-returns c = low-coded (c .args .state) (c .args .width) (c .pre)
+pub returns : goal.returns
+returns c = low_coded c.args.state c.args.width c.requires

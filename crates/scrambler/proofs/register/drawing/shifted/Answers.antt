@@ -1,18 +1,17 @@
-use mathlib.Core.Path.{refl, sym, ap, _∙_}
-use native.Mathlib.Omega.{arith}
-use Rattle·scrambler·specs.Shifts.{shift, shifts}
-use Rattle·scrambler·proofs.Shifting.{shifts-more, shifts-below}
-use Rattle·scrambler·proofs.register.drawing.shifted.Needs as need
+use Rattle.std.proofs.Common.{sym, refl, ap, ◌∙◌, arith}
+use Rattle.scrambler.specs.Shifts.{shift, shifts}
+use Rattle.scrambler.proofs.Shifting.{shifts_more, shifts_below}
+use Rattle.scrambler.proofs.register.drawing.shifted.Goals as goal
 
-pub loop-holds : need.loop-holds
+pub loop-init : goal.loop-init
 unfolding shifts
-loop-holds c = refl
+loop-init c = refl
 
-pub shifted-once-now-requires : need.shifted-once-now-requires
-shifted-once-now-requires c κs = rw (c .loop .inv) (shifts-below (c .loop .counter) (c .args .state) (c .pre))
+pub shifted-once-now-requires : goal.shifted-once-now-requires
+shifted-once-now-requires c = rw c.loop.invariant (shifts_below c.loop.counter c.args.state c.requires)
 
-pub loop-again : need.loop-again
-loop-again c = c .shifted-once-now .ensures ∙ ap shift (c .loop .inv) ∙ sym (shifts-more (c .loop .counter) (c .args .state))
+pub loop-preserved : goal.loop-preserved
+loop-preserved c = c.shifted-once-now.ensures ∙ ap shift c.loop.invariant ∙ sym (shifts_more c.loop.counter c.args.state)
 
-pub returns : need.returns
-returns c = c .loop .inv ∙ ap (λ n. shifts n (c .args .state)) (omega arith)
+pub returns : goal.returns
+returns c = c.loop.invariant ∙ ap (λ n. shifts n c.args.state) (omega arith)

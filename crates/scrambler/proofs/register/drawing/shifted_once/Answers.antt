@@ -1,10 +1,9 @@
-use mathlib.Core.Path.{_∙_, ap}
-use Prim.Native.Nat.{_*_, _%_}
-use lib.Bits.{bitAnd, bitOr}
-use Rattle·scrambler·proofs.Shifting.{shift-coded}
-use Rattle·scrambler·proofs.register.drawing.shifted_once.Needs as need
+use Rattle.std.proofs.Common.{◌*◌, ◌%◌, ap, ◌∙◌}
+use lib.Bits.{bit_and, bit_or}
+use Rattle.scrambler.proofs.Shifting.{shift_coded}
+use Rattle.scrambler.proofs.register.drawing.shifted_once.Goals as goal
 
-pub returns : need.returns
+pub returns : goal.returns
 returns c =
-    let r = c .args .state in
-    ap (λ b. bitAnd (bitOr ((r * 2) % 65536) b) 511) (c .fresh-bit .ensures) ∙ shift-coded r (c .pre)
+    let r = c.args.state in
+    ap (λ b. bit_and (bit_or ((r * 2) % 65536) b) 511) c.fresh-bit.ensures ∙ shift_coded r c.requires

@@ -1,6 +1,6 @@
-use Rattle·scrambler·proofs.Polynomial.{starts-with-one, obeys-polynomial}
-use Rattle·scrambler·proofs.Periods.{has-period-511}
-use Rattle·scrambler·proofs.register.laws.register_holds.Needs as need
+use Rattle.scrambler.proofs.Polynomial.{starts_with_one, obeys_polynomial}
+use Rattle.scrambler.proofs.Periods.{has_period_511}
+use Rattle.scrambler.proofs.register.laws.register_holds.Goals as goal
 
-pub returns : need.returns
-returns c = record { first = starts-with-one; polynomial = obeys-polynomial; period = has-period-511 }
+pub returns : goal.returns
+returns c = record { first = starts_with_one; polynomial = obeys_polynomial; period = has_period_511 }

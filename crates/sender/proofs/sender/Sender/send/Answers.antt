@@ -1,34 +1,30 @@
-use mathlib.Core.Path.{_≡_, refl, sym, ap, _∙_}
-use mathlib.Core.List.{_++_}
-use Prim.Native.Nat.{_*_}
-use native.Mathlib.Omega.{arith}
-use lib.ListN.{length, drop}
-use Rattle·std.proofs.shelf.Lists.{refilled-is}
-use Rattle·plan.specs.Plans.{plan-scheme}
-use Rattle·plan.proofs.Facts.{facts}
-use Rattle·code.specs.Coding.{word}
-use Rattle·code.specs.Numbers.{bits-of}
-use Rattle·sender·specs.Transmission.{sent-array}
-use Rattle·sender·proofs.Answering.{block-encoded, all-yes, never-unfit}
-use Rattle·sender·proofs.Sent.{array-of, transmitted}
-use Rattle·sender·proofs.sender.Sender.send.Needs as need
+use Rattle.std.proofs.Common.{◌≡◌, ◌*◌, ◌++◌, length, drop, sym, refl, ap, ◌∙◌, arith}
+use Rattle.std.proofs.lemmas.List.{with_items_is}
+use Rattle.plan.specs.Plans.{plan_scheme}
+use Rattle.plan.proofs.Facts.{facts}
+use Rattle.code.specs.Coding.{word}
+use Rattle.code.specs.Numbers.{bits_of}
+use Rattle.sender.specs.Transmission.{sent_array}
+use Rattle.sender.proofs.Answering.{block_encoded, all_yes, never_unfit}
+use Rattle.sender.proofs.Sent.{array_of, transmitted}
+use Rattle.sender.proofs.sender.Sender.send.Goals as goal
 
-pub returns : need.returns
+pub returns : goal.returns
 returns g c =
-    let sender = c .args .self .now in
-    let s = plan-scheme (sender .plan .now) in
-    let m = g .S·Scrambler .meaning (sender .scrambler) in
-    let u = bits-of (c .args .block .now) in
-    let word-now = c .as-slice .ensures .value ∙ refilled-is (sender .word) (c .encode .last .word) (c .encode .kept .word ∙ c .as-mut-slice .ensures .len) in
-    let array-now = c .as-slice-2 .ensures .value ∙ refilled-is (sender .array) (c .load .last .array) (c .load .kept .array ∙ c .as-mut-slice-2 .ensures .len) in
-    let bits : c .as-slice .result .now ≡ word s u ++ drop (2 * s .block) (c .as-mut-slice .result .now) = word-now ∙ c .in-Continue-encode .ensures tt .after in
-    let array : c .as-slice-2 .result .now ≡ sent-array s u = array-of s (facts s (sender .plan .now .accepted)) u (c .as-slice .result .now) (c .as-slice-2 .result .now) (c .as-mut-slice-2 .result .now) _ bits (c .as-mut-slice-2 .ensures .len ∙ sender .«array_long») (array-now ∙ c .in-Continue-load .ensures tt .after) in
-    let room = length (c .args .out .now) in
-    let answer = all-yes s m (c .args .block .now) room (sym (c .if-not-fits .ensures tt .answer)) (block-encoded s (c .args .block .now) _ (c .in-Continue-encode .ensures tt .answer)) (omega arith) in
+    let sender = c.args.self.now in
+    let s = plan_scheme sender.plan.now in
+    let m = g.S.Scrambler.meaning sender.scrambler in
+    let u = bits_of c.args.block.now in
+    let word_now = c.as-slice.ensures.value ∙ with_items_is sender.word c.encode.new.word (c.encode.auto.word ∙ c.as-mut-slice.ensures.len) in
+    let array_now = c.as-slice-2.ensures.value ∙ with_items_is sender.array c.load.new.array (c.load.auto.array ∙ c.as-mut-slice-2.ensures.len) in
+    let bits : c.as-slice.result.now ≡ word s u ++ drop (2 * s.block) c.as-mut-slice.result.now = word_now ∙ c.in-ok-encode.ensures.after in
+    let array : c.as-slice-2.result.now ≡ sent_array s u = array_of s (facts s sender.plan.now.accepted) u c.as-slice.result.now c.as-slice-2.result.now c.as-mut-slice-2.result.now _ bits (c.as-mut-slice-2.ensures.len ∙ sender.array_long) (array_now ∙ c.in-ok-load.ensures.after) in
+    let room = length c.args.out.now in
+    let answer = all_yes s m c.args.block.now room (sym c.if-not-fits.ensures.answer) (block_encoded s c.args.block.now _ c.in-ok-encode.ensures.answer) (omega arith) in
     record {
       answer = answer;
-      after = transmitted s m _ u (c .as-slice-2 .result .now) (c .write-indices .last .out) _ array (c .fits-2 .ensures .kept) (c .write-indices .ensures .after);
-      plan-kept = refl;
-      meaning-kept = c .write-indices .ensures .kept ∙ c .fits-2 .ensures .kept;
-      fit = never-unfit s m (c .args .block .now) room 0 answer;
+      after = transmitted s m _ u c.as-slice-2.result.now c.write-indices.new.out _ array c.fits.ensures.kept c.write-indices.ensures.after;
+      plan_kept = refl;
+      meaning_kept = c.write-indices.ensures.kept ∙ c.fits.ensures.kept;
+      fit = never_unfit s m c.args.block.now room 0 answer;
     }

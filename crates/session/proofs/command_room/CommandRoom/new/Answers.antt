@@ -1,5 +1,5 @@
-use Rattle·std.proofs.shelf.Results.{made-from-err}
-use Rattle·session·proofs.command_room.CommandRoom.new.Needs as need
+use Rattle.std.proofs.lemmas.Result.{IfOk-from_err}
+use Rattle.session.proofs.command_room.CommandRoom.new.Goals as goal
 
-pub returns-in-Break-list : need.returns-in-Break-list
-returns-in-Break-list c = made-from-err (c .from-residual-in-Break-list .result) _ (c .from-residual-in-Break-list .ensures .0)
+pub returns-in-err-list : goal.returns-in-err-list
+returns-in-err-list c = IfOk-from_err c.from-residual-in-err-list.result _ c.from-residual-in-err-list.ensures.0

@@ -1,8 +1,8 @@
-use Rattle·std.proofs.shelf.Results.{made-from-err}
-use Rattle·session·proofs.session.Session.new.Needs as need
+use Rattle.std.proofs.lemmas.Result.{IfOk-from_err}
+use Rattle.session.proofs.session.Session.new.Goals as goal
 
-pub returns-in-Break-scores : need.returns-in-Break-scores
-returns-in-Break-scores c = made-from-err (c .from-residual-in-Break-scores .result) _ (c .from-residual-in-Break-scores .ensures .0)
+pub returns-in-err-scores : goal.returns-in-err-scores
+returns-in-err-scores c = IfOk-from_err c.from-residual-in-err-scores.result _ c.from-residual-in-err-scores.ensures.0
 
-pub returns-in-Break-marks : need.returns-in-Break-marks
-returns-in-Break-marks c = made-from-err (c .from-residual-in-Break-marks .result) _ (c .from-residual-in-Break-marks .ensures .0)
+pub returns-in-err-marks : goal.returns-in-err-marks
+returns-in-err-marks c = IfOk-from_err c.from-residual-in-err-marks.result _ c.from-residual-in-err-marks.ensures.0

@@ -1,51 +1,46 @@
-use mathlib.Core.Path.{_≡_, refl, sym, ap, subst, _∙_}
-use mathlib.Core.Bool.{true}
-use Prim.Native.Nat.{_≤_}
-use native.Mathlib.Omega.{arith}
-use lib.ListN.{length}
-use Rattle·std.specs.Of.Vec.{vec-items}
-use Rattle·std.specs.Options.{mapped}
-use Rattle·std.specs.Changed.{refilled}
-use Rattle·std.proofs.shelf.Lists.{refilled-is}
-use Rattle·std.proofs.shelf.Tests.{and-parts, leb-true}
-use Rattle·lines.specs.Plans.{size-fits}
-use Rattle·lines.specs.declared.answer.Answer.the-variants.{Shown}
-use Rattle·lines.specs.declared.command.Command.the-variants.{Look}
-use Rattle·plan.specs.Plans.{plan-scheme}
-use Rattle·receiver.specs.Receivers.{view-of}
-use Rattle·scrambler.specs.Meanings.{table-meaning}
-use Rattle·session·specs.Held.{ShowsBest, Shows}
-use Rattle·session·specs.Sessions.{held}
-use Rattle·session·specs.Sizes.{small-receiver}
-use Rattle·session·proofs.Called.{answers-there, accepted-changes}
-use Rattle·session·proofs.session.Session.show.Needs as need
+use Rattle.std.proofs.Common.{◌≡◌, ◌≤◌, true, length, vec_items, sym, refl, ap, ◌∙◌, subst, arith}
+use Rattle.std.specs.Option.{option_map}
+use Rattle.std.specs.Vec.{with_items}
+use Rattle.std.proofs.lemmas.List.{with_items_is}
+use Rattle.std.proofs.lemmas.Bool.{and_parts, leb-true}
+use Rattle.lines.specs.Plans.{size_fits}
+use Rattle.lines.specs.declared.answer.Answer.TheVariants.{Shown}
+use Rattle.lines.specs.declared.command.Command.TheVariants.{Look}
+use Rattle.plan.specs.Plans.{plan_scheme}
+use Rattle.receiver.specs.Receivers.{view_of}
+use Rattle.scrambler.specs.Meanings.{table_meaning}
+use Rattle.session.specs.Held.{ShowsBest, Shows}
+use Rattle.session.specs.Sessions.{held}
+use Rattle.session.specs.Sizes.{small_receiver}
+use Rattle.session.proofs.Called.{answers_there, accepted_changes}
+use Rattle.session.proofs.session.Session.show.Goals as goal
 
-pub look-requires : need.look-requires
-look-requires c κs =
-    let s = plan-scheme (c .in-Some .receiver .plan) in
-    let small : size-fits s ≡ true = ap small-receiver (sym (c .in-Some .is)) ∙ c .args .self .now .«small_receiver» in
-    let low : s .block ≤ 256 = leb-true _ _ (and-parts _ _ small .0) in
-    let asked = ap (λ p. p .parts .«block_length») (c .plan .ensures) in
-    let size = ap (λ p. p .«block_length») (c .parts .ensures) in
+pub look-requires : goal.look-requires
+look-requires c =
+    let s = plan_scheme c.in-Some.receiver.plan in
+    let small : size_fits s ≡ true = ap small_receiver (sym c.in-Some.is) ∙ c.args.self.now.small_receiver in
+    let low : s.block ≤ 256 = leb-true _ _ (and_parts _ _ small).0 in
+    let asked = ap (λ p. p.parts.block_length) c.plan.ensures in
+    let size = ap (λ p. p.block_length) c.parts.ensures in
     record {
       small = small;
-      values = omega (arith, c .as-slice .ensures .len, c .args .self .now .values);
-      block = omega (arith, c .as-mut-slice .ensures .len, c .truncate .ensures .len, c .args .room .whole, asked, size);
-      scores = omega (arith, c .as-mut-slice-2 .ensures .len, c .args .self .now .columns);
-      marks = omega (arith, c .as-mut-slice-3 .ensures .len, c .args .self .now .«marks_of_all»);
+      values = omega (arith, c.as-slice.ensures.len, c.args.self.now.values);
+      block = omega (arith, c.as-mut-slice.ensures.len, c.truncate.ensures.len, c.args.room.whole, asked, size);
+      scores = omega (arith, c.as-mut-slice-2.ensures.len, c.args.self.now.columns);
+      marks = omega (arith, c.as-mut-slice-3.ensures.len, c.args.self.now.marks_of_all);
     }
 
-pub returns : need.returns
+pub returns : goal.returns
 returns c =
-    let s = c .args .self .now in
-    let number = answers-there (view-of table-meaning) (s .receiver) (c .in-Some .receiver) (λ v. 0) (c .in-Some .is) in
-    let e = c .in-Continue-score .ensures tt in
-    let whole = refilled-is (c .truncate .last .self) (c .look .last .block) (omega arith) in
+    let s = c.args.self.now in
+    let number = answers_there (view_of table_meaning) s.receiver c.in-Some.receiver (λ v. 0) c.in-Some.is in
+    let e = c.in-ok-score.ensures in
+    let whole = with_items_is c.truncate.new.self c.look.new.block (omega arith) in
     record {
       answer = number;
-      after = accepted-changes (held s) Look number;
+      after = accepted_changes (held s) Look number;
       reply =
-          subst (λ o. ShowsBest (mapped (view-of table-meaning) o) (vec-items (s .memory)) (Shown (c .in-Continue-score .score) (refilled (c .truncate .last .self) (c .look .last .block)))) (sym (c .in-Some .is))
-          (subst (λ l. Shows (view-of table-meaning (c .in-Some .receiver)) (vec-items (s .memory)) (c .in-Continue-score .score) l) (sym whole)
-          (subst (λ l. Shows (view-of table-meaning (c .in-Some .receiver)) l (c .in-Continue-score .score) (c .look .last .block)) (c .as-slice .ensures .value) (e .shows)));
+          subst (λ o. ShowsBest (option_map (view_of table_meaning) o) (vec_items s.memory) (Shown c.in-ok-score.score (with_items c.truncate.new.self c.look.new.block))) (sym c.in-Some.is)
+          (subst (λ l. Shows (view_of table_meaning c.in-Some.receiver) (vec_items s.memory) c.in-ok-score.score l) (sym whole)
+          (subst (λ l. Shows (view_of table_meaning c.in-Some.receiver) l c.in-ok-score.score c.look.new.block) c.as-slice.ensures.value e.shows));
     }

@@ -1,17 +1,16 @@
-use native.Mathlib.Omega.{arith}
-use mathlib.Core.Path.{_∙_}
-use Rattle·plan.specs.Plans.{plan-scheme}
-use Rattle·receiver.specs.Receivers.{view-of}
-use Rattle·scrambler.specs.Meanings.{table-meaning}
-use Rattle·session·proofs.Looked.{small-enough, shows-from}
-use Rattle·session·proofs.session.looking.look.Needs as need
+use Rattle.std.proofs.Common.{◌∙◌, arith}
+use Rattle.plan.specs.Plans.{plan_scheme}
+use Rattle.receiver.specs.Receivers.{view_of}
+use Rattle.scrambler.specs.Meanings.{table_meaning}
+use Rattle.session.proofs.Looked.{small_enough, shows_from}
+use Rattle.session.proofs.session.looking.look.Goals as goal
 
-pub returns : need.returns
+pub returns : goal.returns
 returns c =
-    let receiver = c .args .receiver .now in
+    let receiver = c.args.receiver.now in
     record {
       answer =
-          c .look .ensures .answer
-          ∙ small-enough (plan-scheme (receiver .plan)) _ (receiver .plan .accepted) (c .pre .small) (c .pre .values) (c .pre .block) (omega (arith, c .split-at-mut-first .ensures .front-len)) (omega (arith, c .split-at-mut-first .ensures .back-len)) (c .pre .marks);
-      shows = shows-from (view-of table-meaning receiver) (c .args .memory .now) (c .args .block .now) (c .look .last .block) (c .pre .block) (c .look .result) (c .look .ensures .found) (c .look .ensures .block);
+          c.look.ensures.answer
+          ∙ small_enough (plan_scheme receiver.plan) _ receiver.plan.accepted c.requires.small c.requires.values c.requires.block (omega (arith, c.split-at-mut-first.ensures.front-len)) (omega (arith, c.split-at-mut-first.ensures.back_len)) c.requires.marks;
+      shows = shows_from (view_of table_meaning receiver) c.args.memory.now c.args.block.now c.look.new.block c.requires.block c.look.result c.look.ensures.found c.look.ensures.block;
     }

@@ -1,6 +1,6 @@
-use mathlib.Core.Path.{sym}
-use Rattle·std.proofs.shelf.Lists.{set-past}
-use Rattle·trellis·proofs.column.Column.put.Needs as need
+use Rattle.std.proofs.Common.{sym}
+use Rattle.std.proofs.lemmas.List.{set_past}
+use Rattle.trellis.proofs.column.Column.put.Goals as goal
 
-pub returns-else-state-self : need.returns-else-state-self
-returns-else-state-self g c = sym (set-past (c .args .self .now .scores .now) (c .args .state) (c .args .score) (c .if-state-self .left))
+pub returns-else-state-self : goal.returns-else-state-self
+returns-else-state-self g c = sym (set_past c.args.self.now.scores.now c.args.state c.args.score c.if-state-self.false)

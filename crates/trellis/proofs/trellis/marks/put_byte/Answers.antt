@@ -1,6 +1,6 @@
-use mathlib.Core.Path.{sym}
-use Rattle·std.proofs.shelf.Lists.{set-past}
-use Rattle·trellis·proofs.trellis.marks.put_byte.Needs as need
+use Rattle.std.proofs.Common.{sym}
+use Rattle.std.proofs.lemmas.List.{set_past}
+use Rattle.trellis.proofs.trellis.marks.put_byte.Goals as goal
 
-pub returns-else-place-bytes : need.returns-else-place-bytes
-returns-else-place-bytes c = sym (set-past (c .args .bytes .now) (c .args .place) (c .args .byte) (c .if-place-bytes .left))
+pub returns-else-place-bytes : goal.returns-else-place-bytes
+returns-else-place-bytes c = sym (set_past c.args.bytes.now c.args.place c.args.byte c.if-place-bytes.false)

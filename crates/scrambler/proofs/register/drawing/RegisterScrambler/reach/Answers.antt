@@ -1,6 +1,6 @@
-use mathlib.Core.Path.{refl, sym}
-use Rattle·scrambler·proofs.Bounds.{length-drawn}
-use Rattle·scrambler·proofs.register.drawing.RegisterScrambler.reach.Needs as need
+use Rattle.std.proofs.Common.{sym, refl}
+use Rattle.scrambler.specs.Bounds.{length_drawn}
+use Rattle.scrambler.proofs.register.drawing.RegisterScrambler.reach.Goals as goal
 
-pub returns : need.returns
-returns c = record { value = sym (length-drawn (c .args .self .now .width)); kept = refl }
+pub returns : goal.returns
+returns c = record { value = sym (length_drawn c.args.self.now.width); kept = refl }

@@ -1,17 +1,16 @@
-use mathlib.Core.Path.{refl, ap, _∙_}
-use Prim.Native.Nat.{_%_, _^_}
-use Rattle·scrambler·proofs.Bounds.{drawn-value, drawn-none}
-use Rattle·scrambler·proofs.register.drawing.RegisterScrambler.value.Needs as need
+use Rattle.std.proofs.Common.{◌%◌, ◌^◌, refl, ap, ◌∙◌}
+use Rattle.scrambler.specs.Bounds.{drawn_value, drawn_none}
+use Rattle.scrambler.proofs.register.drawing.RegisterScrambler.value.Goals as goal
 
-pub returns-then-place-ge-REACH : need.returns-then-place-ge-REACH
+pub returns-then-place-ge-REACH : goal.returns-then-place-ge-REACH
 returns-then-place-ge-REACH c =
-    record { value = drawn-none (c .args .self .now .width) (c .args .place) (c .if-place-ge-REACH .taken); kept = refl }
+    record { value = drawn_none c.args.self.now.width c.args.place c.if-place-ge-REACH.true; kept = refl }
 
-pub ghost-self : need.ghost-self
-ghost-self c = (c .args .self .now .fits, (c .state-at-state .ensures, tt))
+pub invariant-of-self : goal.invariant-of-self
+invariant-of-self c = (c.args.self.now.fits, (c.state-at-state.ensures, tt))
 
-pub returns : need.returns
+pub returns : goal.returns
 returns c =
-    let width = c .args .self .now .width in
-    let drawn = c .low-bits .ensures ∙ ap (λ r. r % 2 ^ width) (c .state-at-state .ensures) in
-    record { value = drawn-value width (c .args .place) _ (c .if-place-ge-REACH .left) drawn; kept = refl }
+    let width = c.args.self.now.width in
+    let drawn = c.low-bits.ensures ∙ ap (λ r. r % 2 ^ width) c.state-at-state.ensures in
+    record { value = drawn_value width c.args.place _ c.if-place-ge-REACH.false drawn; kept = refl }

@@ -1,0 +1,7 @@
+use Rattle.std.proofs.Common.{◌≡◌}
+use Rattle.channel.specs.Drawing.{state_after}
+use Rattle.channel.proofs.generator.Generator.draw_normal.Given as goal
+
+-- i fractions are drawn
+abbrev pub invariant-loop-i : goal.invariant-loop-i
+invariant-loop-i l = l.self.state ≡ state_after l.-i l.initial.self.state

@@ -1,0 +1,9 @@
+use Rattle.std.proofs.Common.{◌≡◌, ◌*◌, length}
+use Rattle.code.specs.Numbers.{read}
+use Rattle.code.specs.Sending.{loads}
+use Rattle.plan.specs.Plans.{plan_scheme}
+use Rattle.code.proofs.interleaver.load_runs.Given as goal
+
+-- the runs before this one are loaded
+abbrev pub invariant-loop-run : goal.invariant-loop-run
+invariant-loop-run l = let s = plan_scheme l.plan in l.array ≡ loads s (read l.word) l.initial.array 0 (l.run * length s.entries)
