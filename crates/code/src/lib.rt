@@ -1,4 +1,5 @@
 // The convolutional code, the order of sending and the mapping to symbols.
+#![tactic(auto)]
 mod encoder;
 mod generators;
 mod interleaver;

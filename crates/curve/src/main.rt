@@ -1,4 +1,5 @@
 // Takes blocks of one of the standard's waveforms from random bits to counted dots on an error curve.
+#![tactic(auto)]
 mod calls;
 mod checksum;
 mod choice;

@@ -1,4 +1,5 @@
 // The lines of the bench program and its answers, as text.
+#![tactic(auto)]
 mod accept;
 mod answer;
 mod command;

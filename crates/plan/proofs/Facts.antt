@@ -1,9 +1,9 @@
 -- What the yes to every question says, as plain facts.
 -- Assumes nothing.
-use Rattle.std.proofs.Common.{◌≡◌, ℕ, zero, suc, ◌+◌, ◌-◌, ◌*◌, ◌/◌, ◌%◌, ◌<◌, ◌≤◌, Bool, true, false, cond, not, ◌&&◌, ◌||◌, eqb, ltb, leb, ◌⊎◌, length, sym, refl, ap, ◌∙◌, subst, inl, inr, ⊎_elim, arith}
+use Rattle.std.proofs.Common.{◌≡◌, ℕ, suc, ◌*◌, ◌%◌, ◌≤◌, Bool, true, false, cond, not, ◌||◌, eqb, ◌⊎◌, length, refl, inl, inr, ⊎_elim, arith}
 use Rattle.std.proofs.lemmas.Bool.{and_parts, or_cases, leb-true, eqb-true}
 use Rattle.plan.specs.Scheme.{Scheme, sent_length}
-use Rattle.plan.specs.Questions.{within, divides, all_below, coprime, bits_fit, plan_answer}
+use Rattle.plan.specs.Questions.{within, all_below, coprime, bits_fit, plan_answer}
 
 pub record Facts (s : Scheme) : Type 0 where
   pub constraint : (s.constraint ≡ 7) ⊎ (s.constraint ≡ 9)

@@ -1,4 +1,6 @@
 // The plan of a coding chain: seven parts that have passed eight questions.
+#![tactic(auto)]
+
 mod fault;
 mod parts;
 mod plan;

@@ -2,7 +2,7 @@
 ghost use Rattle.std.specs.Prelude.{◌≡◌, ◌≤◌};
 ghost use Rattle.plan.specs.Parts.{scheme};
 ghost use Rattle.plan.specs.Questions.{plan_answer};
-ghost use Rattle.plan.specs.Scheme.{sent_length};
+ghost use Rattle.plan.specs.Scheme.{sent_length as length_sent};
 
 use crate::parts::Parts;
 
@@ -14,5 +14,5 @@ pub struct Plan {
     // the length of what is sent for a block, kept so that no call divides for it
     sent_length: usize,
     ghost accepted: { plan_answer (scheme parts) ≡ 0 },
-    ghost sent: { sent_length ≡ sent_length (scheme parts) },
+    ghost sent: { sent_length ≡ length_sent (scheme parts) },
 }

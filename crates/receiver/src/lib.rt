@@ -1,4 +1,5 @@
 // The receiver: values at locations, set by what is heard, noted and blanked.
+#![tactic(auto)]
 mod laws;
 mod questions;
 mod receiver;

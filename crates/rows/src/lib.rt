@@ -1,4 +1,5 @@
 // The rows of the standard: which plan belongs to a bandwidth, a waveform and an interleaver.
+#![tactic(auto)]
 mod pattern;
 mod rate;
 mod row;

@@ -1,4 +1,5 @@
 // The standard's table as lines of text, for the programs that print it.
+#![tactic(auto)]
 mod bands;
 mod lists;
 

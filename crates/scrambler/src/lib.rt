@@ -1,4 +1,5 @@
 // Scramblers: a trait by its meaning, and the two kinds, a table and a register.
+#![tactic(auto)]
 mod register;
 mod scrambler;
 mod table;

@@ -1,4 +1,5 @@
 // The search for the block that fits the values best, through a trellis that bites its tail.
+#![tactic(auto)]
 mod looking;
 mod pass;
 mod step;

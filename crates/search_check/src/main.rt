@@ -1,4 +1,5 @@
 // Compares the search with a plain engine that tries every block, on a plan of nine bits.
+#![tactic(auto)]
 mod engine;
 mod values;
 

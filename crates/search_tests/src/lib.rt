@@ -1,4 +1,5 @@
 // The search on small plans, run.
+#![tactic(auto)]
 use plan::{ChainFault, Parts, Plan};
 use score::Total;
 use search::search;

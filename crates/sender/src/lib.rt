@@ -1,4 +1,5 @@
 // The sender: a block's coded bits, interleaved, mapped to symbols and scrambled.
+#![tactic(auto)]
 mod indices;
 mod laws;
 mod scrambling;
