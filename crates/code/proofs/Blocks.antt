@@ -1,6 +1,6 @@
 -- A block's bits, and the windows that slide over them.
 -- Assumes nothing.
-use Rattle.std.proofs.Common.{◌≡◌, ℕ, zero, suc, ◌+◌, ◌-◌, ◌*◌, ◌/◌, ◌%◌, ◌^◌, ◌<◌, ◌≤◌, Bool, true, false, ◌&&◌, eqb, ltb, ◌≢◌, List, [], ◌∷◌, length, get_or, sym, refl, ap, ◌∙◌, subst, ⊎_elim, add-zero, mod-eq_of_lt, mul_left_comm, add-one, arith, pow_mono}
+use Rattle.std.proofs.Common.{◌≡◌, ℕ, zero, suc, ◌+◌, ◌-◌, ◌*◌, ◌%◌, ◌^◌, ◌<◌, ◌≤◌, Bool, true, false, eqb, ltb, List, [], ◌∷◌, length, get_or, sym, refl, ap, ◌∙◌, add-zero, mod-eq_of_lt, mul_left_comm, add-one, arith, pow_mono}
 use native.Mathlib.Nat.{pow-succ', add-mod_right}
 use Rattle.std.proofs.lemmas.Nat.{mod_low}
 use Rattle.std.proofs.lemmas.Bool.{and_parts, ltb-true, eqb-true}

@@ -1,6 +1,6 @@
 -- Loading the interleaver array, one sent bit after the other.
 -- Assumes nothing.
-use Rattle.std.proofs.Common.{◌≡◌, ℕ, zero, suc, ◌+◌, ◌-◌, ◌*◌, ◌/◌, ◌%◌, ◌<◌, ◌≤◌, Bool, true, false, List, ◌++◌, length, get_or, set, sym, refl, ap, ◌∙◌, subst, add-zero, add_assoc, add-suc, mod-lt, mul_assoc, mul_comm, add-one, arith}
+use Rattle.std.proofs.Common.{◌≡◌, ℕ, zero, suc, ◌+◌, ◌*◌, ◌/◌, ◌<◌, ◌≤◌, Bool, List, ◌++◌, length, get_or, set, sym, refl, ap, ◌∙◌, add-zero, add_assoc, add-suc, mod-lt, mul_assoc, mul_comm, add-one, arith}
 use native.Mathlib.Nat.{mul-div-le}
 use Rattle.std.proofs.lemmas.Nat.{div-mul-add, mod-mul-add, mul-add-lt, mul-le}
 use Rattle.std.proofs.lemmas.List.{length-set, set-append_left}

@@ -1,12 +1,12 @@
 -- One step of the encoder: the window, its pair, the two places of the code word, the next state.
 -- Assumes nothing.
-use Rattle.std.proofs.Common.{◌≡◌, ℕ, zero, suc, ◌+◌, ◌-◌, ◌*◌, ◌/◌, ◌%◌, ◌^◌, ◌<◌, ◌≤◌, Bool, true, false, cond, eqb, ◌⊎◌, List, length, set, sym, refl, ap, ◌∙◌, subst, add-one, arith}
+use Rattle.std.proofs.Common.{◌≡◌, ℕ, suc, ◌+◌, ◌-◌, ◌*◌, ◌/◌, ◌%◌, ◌^◌, Bool, true, cond, eqb, List, length, set, sym, ap, ◌∙◌, subst, add-one, arith}
 use native.Mathlib.Nat.{mod-add-mod}
 use lib.Bits.{bit_and}
 use Rattle.std.proofs.lemmas.Nat.{and_mask}
 use Rattle.plan.specs.Scheme.{Scheme}
 use Rattle.plan.proofs.Facts.{Facts}
-use Rattle.code.specs.Coding.{around, coded, is_block, mother, one_of, pair}
+use Rattle.code.specs.Coding.{around, coded, is_block, mother, pair}
 use Rattle.code.specs.Laws.{TailBiting}
 use Rattle.code.specs.Numbers.{digit, num, bit_of, bits_of}
 use Rattle.code.proofs.Blocks.{num_low, num_more}

@@ -1,9 +1,9 @@
 -- Steps of a co-prime increment reach every location once.
 -- Assumes nothing.
-use Rattle.std.proofs.Common.{◌≡◌, ℕ, zero, suc, ◌+◌, ◌-◌, ◌*◌, ◌/◌, ◌%◌, ◌<◌, ◌≤◌, true, ◌⊎◌, sym, refl, ap, ◌∙◌, subst, inl, inr, ⊎_elim, le_refl, mod-lt, mod-eq_of_lt, mul_assoc, suc-mul, mul_comm, add-mul, one-mul, mul-add, mul_left_comm, arith}
+use Rattle.std.proofs.Common.{◌≡◌, ℕ, zero, suc, ◌+◌, ◌*◌, ◌/◌, ◌%◌, ◌<◌, ◌≤◌, true, sym, ap, ◌∙◌, le_refl, mod-lt, mod-eq_of_lt, mul_assoc, suc-mul, mul_comm, add-mul, one-mul, mul-add, mul_left_comm, arith}
 use native.Mathlib.Nat.{mod_self, zero-mod, div-add-mod, add-mul-mod_self_left, mul-add-mod_self_left}
 use Rattle.plan.specs.Questions.{coprime}
-use Rattle.plan.proofs.Divisors.{Common, SameDivisors, coprime_means, euclid_step}
+use Rattle.plan.proofs.Divisors.{Common, coprime_means, euclid_step}
 
 -- x u + y w is 1 more than x t + y v
 record Bezout (x y : ℕ) : Type 0 where

@@ -1,6 +1,6 @@
 -- What the calls of this crate answer: 0, or the number of the first question that is answered no.
 -- Assumes nothing.
-use Rattle.std.specs.Prelude.{ℕ, ◌*◌, ◌/◌, Bool, cond, not, ◌||◌, List, nat_le, nat_lt}
+use Rattle.std.specs.Prelude.{ℕ, ◌*◌, ◌/◌, cond, not, ◌||◌, List, nat_le, nat_lt}
 use Rattle.plan.specs.Scheme.{Scheme, sent_length}
 use Rattle.code.specs.Coding.{is_block}
 

@@ -1,6 +1,6 @@
 -- From the code word to the interleaver array: puncturing and repeats by the send list, then loading.
 -- Assumes nothing.
-use Rattle.std.specs.Prelude.{ℕ, zero, suc, ◌+◌, ◌*◌, ◌/◌, ◌%◌, Bool, true, false, List, length, replicate, slice_index, slice_set}
+use Rattle.std.specs.Prelude.{ℕ, zero, suc, ◌+◌, ◌*◌, ◌/◌, ◌%◌, Bool, false, List, length, replicate, slice_index, slice_set}
 use Rattle.plan.specs.Scheme.{Scheme, sent_length}
 
 -- the place in the code word of sent bit n: run n / M of the send list, entry n % M

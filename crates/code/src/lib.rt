@@ -1,5 +1,6 @@
 // The convolutional code, the order of sending and the mapping to symbols.
 #![tactic(auto)]
+
 mod encoder;
 mod generators;
 mod interleaver;

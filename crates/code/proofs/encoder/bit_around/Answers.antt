@@ -1,4 +1,4 @@
-use Rattle.std.proofs.Common.{◌≡◌, ◌-◌, ◌%◌, ◌<◌, length, get_or, sym, ap, ◌∙◌, mod-eq_of_lt, arith}
+use Rattle.std.proofs.Common.{◌-◌, ◌<◌, length, get_or, sym, ap, ◌∙◌, mod-eq_of_lt, arith}
 use Rattle.code.specs.Numbers.{digit, bits_of}
 use Rattle.code.proofs.Blocks.{below_get_or, digit_byte, wrapped}
 use Rattle.code.proofs.encoder.bit_around.Goals as goal

@@ -1,4 +1,4 @@
-use Rattle.std.proofs.Common.{◌≡◌, ◌≤◌, false, ◌++◌, drop, refl, ap, ◌∙◌, subst, arith}
+use Rattle.std.proofs.Common.{◌≡◌, false, ◌++◌, drop, refl, ap, ◌∙◌, subst, arith}
 use Rattle.code.proofs.Filled.{Filled, filled_more, filled_all, filled_same}
 use Rattle.code.proofs.interleaver.clear.Goals as goal
 

@@ -17,7 +17,7 @@ returns c =
     let cleared : c.clear.new.array ≡ replicate size false ++ drop size c.args.array.now =
     c.clear.ensures ∙ ap (λ n. replicate n false ++ drop n c.args.array.now) c.sent_length.ensures in
     record {
-      answer = sym c.if-not-are-long.ensures;
-      after = c.load-runs.ensures ∙ ap (λ l. loads s w l 0 size) cleared
+      answer = sym c.if-not-are_long.ensures;
+      after = c.load_runs.ensures ∙ ap (λ l. loads s w l 0 size) cleared
           ∙ loads_front s (facts s c.args.plan.now.accepted) w (replicate size false) (drop size c.args.array.now) 0 size (length-replicate size false);
     }

@@ -18,7 +18,7 @@ loop-run-preserved c =
     let m = length s.entries in
     let done = c.loop-run.run * m in
     let next : done + m ≡ (c.loop-run.run + 1) * m = omega (arith, add-mul c.loop-run.run 1 m, one-mul m) in
-    c.load-run.ensures
+    c.load_run.ensures
     ∙ ap (λ l. loads s w l done m) c.loop-run.invariant
     ∙ ap (λ n. loads s w (loads s w c.args.array.now 0 done) n m) (sym (zero-add done))
     ∙ loads_on s (facts s c.args.plan.now.accepted) w c.args.array.now 0 done m

@@ -1,13 +1,12 @@
-use Rattle.std.proofs.Common.{◌≡◌, ◌*◌, ◌%◌, ◌<◌, ◌≤◌, sym, ap, ◌∙◌, arith}
+use Rattle.std.proofs.Common.{◌≡◌, ◌*◌, ◌%◌, ap, arith}
 use Rattle.plan.specs.Plans.{plan_scheme}
-use Rattle.plan.specs.Scheme.{sent_length}
 use Rattle.plan.proofs.Facts.{facts}
 use Rattle.code.specs.Sending.{location}
 use Rattle.code.proofs.Loading.{product_fits, location_below}
 use Rattle.code.proofs.interleaver.location_below.Goals as goal
 
-pub overflow-mul-result : goal.overflow-mul-result
-overflow-mul-result c =
+pub overflow_mul-result : goal.overflow_mul-result
+overflow_mul-result c =
     let s = plan_scheme c.args.plan.now in
     let same = ap (λ p. c.args.n * p.increment) c.parts.ensures in
     omega (arith, same, product_fits s (facts s c.args.plan.now.accepted) c.args.n c.requires)

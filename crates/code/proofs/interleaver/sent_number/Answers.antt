@@ -16,11 +16,11 @@ below c =
     let s = plan_scheme c.args.plan.now in
     omega (arith, same c, sent_below s (facts s c.args.plan.now.accepted) c.args.run c.args.i c.requires.0 c.requires.1)
 
-pub overflow-mul-result : goal.overflow-mul-result
-overflow-mul-result c = let s = plan_scheme c.args.plan.now in omega (arith, below c, (facts s c.args.plan.now.accepted).sent_high)
+pub overflow_mul-result : goal.overflow_mul-result
+overflow_mul-result c = let s = plan_scheme c.args.plan.now in omega (arith, below c, (facts s c.args.plan.now.accepted).sent_high)
 
-pub overflow-add-result : goal.overflow-add-result
-overflow-add-result c = let s = plan_scheme c.args.plan.now in omega (arith, below c, (facts s c.args.plan.now.accepted).sent_high)
+pub overflow_add-result : goal.overflow_add-result
+overflow_add-result c = let s = plan_scheme c.args.plan.now in omega (arith, below c, (facts s c.args.plan.now.accepted).sent_high)
 
 pub returns : goal.returns
 returns c = record { value = same c; bound = below c }

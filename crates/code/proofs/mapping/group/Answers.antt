@@ -1,4 +1,4 @@
-use Rattle.std.proofs.Common.{◌≡◌, ◌+◌, ◌*◌, ◌^◌, ◌<◌, ◌≤◌, sym, ap, ◌∙◌, add-one, arith, pow_mono}
+use Rattle.std.proofs.Common.{◌≡◌, ◌+◌, ◌*◌, ◌<◌, ◌≤◌, sym, ap, ◌∙◌, add-one, arith, pow_mono}
 use Rattle.plan.specs.Plans.{plan_scheme}
 use Rattle.plan.specs.Scheme.{sent_length}
 use Rattle.plan.proofs.Facts.{facts}
@@ -17,16 +17,16 @@ below c =
     let inside : c.loop-i.i < s.bits = omega (arith, ap (λ p. p.symbol_bits) c.parts.ensures, c.loop-i-test.true) in
     fetch_below s (facts s c.args.plan.now.accepted) c.args.place c.loop-i.i c.requires.1 inside
 
-pub overflow-mul-first : goal.overflow-mul-first
-overflow-mul-first c =
+pub overflow_mul-first : goal.overflow_mul-first
+overflow_mul-first c =
     let s = plan_scheme c.args.plan.now in
     let known = facts s c.args.plan.now.accepted in
     omega (arith, first c, fetch_below s known c.args.place 0 c.requires.1 known.bits_low, known.sent_high)
 
-pub overflow-add-first : goal.overflow-add-first
-overflow-add-first c =
+pub overflow_add-first : goal.overflow_add-first
+overflow_add-first c =
     let s = plan_scheme c.args.plan.now in
-    omega (arith, first (goal.at.overflow-add-first c).After-parts, below (goal.at.overflow-add-first c).In-loop-i, (facts s c.args.plan.now.accepted).sent_high)
+    omega (arith, first (goal.at.overflow_add-first c).After-parts, below (goal.at.overflow_add-first c).In-loop-i, (facts s c.args.plan.now.accepted).sent_high)
 
 pub bounds-array-first : goal.bounds-array-first
 bounds-array-first c = omega (arith, first (goal.at.bounds-array-first c).After-parts, below (goal.at.bounds-array-first c).In-loop-i, c.requires.0)

@@ -1,4 +1,4 @@
-use Rattle.std.proofs.Common.{◌≡◌, ◌^◌, ◌<◌, ◌≤◌, cond, ltb, Some, None, sym, ap, ◌∙◌, arith}
+use Rattle.std.proofs.Common.{◌^◌, ◌<◌, ◌≤◌, ltb, Some, None, sym, ap, ◌∙◌, arith}
 use Rattle.std.proofs.lemmas.Bool.{cond-true, cond-false}
 use Rattle.plan.specs.Plans.{plan_scheme}
 use Rattle.plan.proofs.Facts.{facts}
@@ -12,28 +12,28 @@ returns-then-bits-le3 c =
     let q = ap (λ p. p.symbol_bits) c.parts.ensures in
     let low : s.bits ≤ 3 = omega (arith, q, c.if-bits-le3.true) in
     record {
-      value = c.place-in.ensures ∙ ap (place_from c.args.symbol 0) (c.phases.ensures.value ∙ ap phases q) ∙ sym (number_low s.bits c.args.symbol low);
+      value = c.place_in.ensures ∙ ap (place_from c.args.symbol 0) (c.phases.ensures.value ∙ ap phases q) ∙ sym (number_low s.bits c.args.symbol low);
       inverts = inverts s.bits (facts s c.args.plan.now.accepted).bits_low;
     }
 
-pub returns-then-has-bits : goal.returns-then-has-bits
-returns-then-has-bits c =
+pub returns-then-has_bits : goal.returns-then-has_bits
+returns-then-has_bits c =
     let s = plan_scheme c.args.plan.now in
     let y = c.args.symbol in
     let q = ap (λ p. p.symbol_bits) c.parts.ensures in
     let high : 3 < s.bits = omega (arith, q, c.if-bits-le3.false) in
     record {
-      value = sym (number_high s.bits y high ∙ cond-true (ltb y (2 ^ s.bits)) (Some y) None (ap (λ n. ltb y (2 ^ n)) (sym q) ∙ sym c.if-has-bits.ensures));
+      value = sym (number_high s.bits y high ∙ cond-true (ltb y (2 ^ s.bits)) (Some y) None (ap (λ n. ltb y (2 ^ n)) (sym q) ∙ sym c.if-has_bits.ensures));
       inverts = inverts s.bits (facts s c.args.plan.now.accepted).bits_low;
     }
 
-pub returns-else-has-bits : goal.returns-else-has-bits
-returns-else-has-bits c =
+pub returns-else-has_bits : goal.returns-else-has_bits
+returns-else-has_bits c =
     let s = plan_scheme c.args.plan.now in
     let y = c.args.symbol in
     let q = ap (λ p. p.symbol_bits) c.parts.ensures in
     let high : 3 < s.bits = omega (arith, q, c.if-bits-le3.false) in
     record {
-      value = sym (number_high s.bits y high ∙ cond-false (ltb y (2 ^ s.bits)) (Some y) None (ap (λ n. ltb y (2 ^ n)) (sym q) ∙ sym c.if-has-bits.ensures));
+      value = sym (number_high s.bits y high ∙ cond-false (ltb y (2 ^ s.bits)) (Some y) None (ap (λ n. ltb y (2 ^ n)) (sym q) ∙ sym c.if-has_bits.ensures));
       inverts = inverts s.bits (facts s c.args.plan.now.accepted).bits_low;
     }
