@@ -1,5 +1,6 @@
 // Errors of shown blocks against sent ones: what a dot of an error curve counts.
 #![tactic(auto)]
+
 ghost use Rattle.std.specs.Prelude.{◌≡◌, cond};
 ghost use Rattle.errors.specs.Errors.{differing, added, with_block};
 

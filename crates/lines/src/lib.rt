@@ -1,5 +1,6 @@
 // The lines of the bench program and its answers, as text.
 #![tactic(auto)]
+
 mod accept;
 mod answer;
 mod command;

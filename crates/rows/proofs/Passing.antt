@@ -1,8 +1,8 @@
 -- An entry is consistent where a test passes that computes at once.
 -- Assumes nothing.
-use Rattle.std.proofs.Common.{◌≡◌, ℕ, zero, suc, ◌*◌, Bool, true, false, cond, not, ◌&&◌, ◌||◌, eqb, sym, refl, subst, ⊎_elim}
+use Rattle.std.proofs.Common.{◌≡◌, ℕ, ◌*◌, Bool, true, false, cond, not, ◌&&◌, eqb, sym, refl, subst, ⊎_elim}
 use Rattle.std.proofs.lemmas.Bool.{eqb-true, and_parts, and_from, or_cases, false≢true}
-use Rattle.plan.specs.Questions.{within, coprime, constraint_fits, period_fits, entries_fit, block_fits, sent_fits, bits_fit, frame_fits, increment_fits, plan_answer}
+use Rattle.plan.specs.Questions.{within, constraint_fits, period_fits, entries_fit, block_fits, sent_fits, bits_fit, frame_fits, increment_fits, plan_answer}
 use Rattle.plan.specs.Scheme.{Scheme, sent_length}
 use Rattle.rows.specs.Ratios.{ratio}
 use Rattle.rows.specs.Schemes.{entry_scheme, is_constraint, Consistent}

@@ -1,6 +1,6 @@
 -- A plan's fault has a number above 0, so a scheme that passes every question is not refused.
 -- Assumes nothing.
-use Rattle.std.proofs.Common.{◌≡◌, ℕ, ◌≤◌, ap, ◌∙◌, subst, arith, lit≤}
+use Rattle.std.proofs.Common.{◌≡◌, ◌≤◌, ap, ◌∙◌, arith, lit≤}
 use Rattle.plan.specs.Faults.{plan_number}
 use Rattle.plan.specs.Questions.{plan_answer}
 use Rattle.plan.specs.Scheme.{Scheme}

@@ -1,7 +1,7 @@
 -- The whole table passes one test, so each of its entries is consistent.
 -- Assumes nothing.
-use Rattle.std.proofs.Common.{◌≡◌, ℕ, zero, suc, ◌+◌, ◌-◌, ◌*◌, ◌<◌, ◌≤◌, Bool, true, false, cond, ◌&&◌, eqb, List, [], ◌∷◌, get_or, Some, None, Option, sym, refl, ap, ◌∙◌, subst, add-zero, add-suc, arith}
-use Rattle.std.proofs.lemmas.Bool.{and_parts, leb-true, false≢true, cases_Bool, cond-true, cond-false}
+use Rattle.std.proofs.Common.{◌≡◌, ℕ, zero, suc, ◌+◌, ◌-◌, ◌*◌, ◌≤◌, Bool, true, false, cond, ◌&&◌, eqb, List, [], ◌∷◌, get_or, Some, None, Option, sym, refl, subst, add-zero, arith}
+use Rattle.std.proofs.lemmas.Bool.{and_parts, leb-true}
 use Rattle.plan.specs.Questions.{within}
 use Rattle.rows.specs.Rows.{place_of, setting_at, symbol_bits, row_setting, depth_at, entry_of}
 use Rattle.rows.specs.Table.{bandwidths, table}

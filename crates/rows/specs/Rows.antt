@@ -1,6 +1,6 @@
 -- What the standard says of a row.
 -- Assumes nothing.
-use Rattle.std.specs.Prelude.{ℕ, suc, ◌-◌, ◌*◌, ◌/◌, true, false, cond, List, [], ◌∷◌, Some, None, Option, ◌==◌, slice_index, slice_index_or}
+use Rattle.std.specs.Prelude.{ℕ, suc, ◌-◌, ◌*◌, ◌/◌, cond, List, [], ◌∷◌, Some, None, Option, ◌==◌, slice_index, slice_index_or}
 use Rattle.std.specs.Option.{option_map}
 use Rattle.plan.specs.Questions.{within}
 use Rattle.rows.specs.Table.{bandwidths, table}

@@ -2,7 +2,6 @@
 -- interleavers ultra short, short, medium and long the frames, the bits, the bits of the block and the increment.
 -- Assumes nothing.
 use Rattle.std.specs.Prelude.{ℕ, List, [], ◌∷◌, Some, None, Option}
-use Rattle.rows.specs.declared.rate.Rate.{Rate}
 use Rattle.rows.specs.declared.rate.Rate.TheVariants.{NineTenths, EightNinths, FiveSixths, FourFifths, ThreeQuarters, TwoThirds, NineSixteenths, Half, Third, Quarter, Sixth, Eighth, Twelfth, Sixteenth}
 use Rattle.rows.specs.declared.table.Setting.{Setting}
 

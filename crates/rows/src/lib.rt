@@ -1,5 +1,6 @@
 // The rows of the standard: which plan belongs to a bandwidth, a waveform and an interleaver.
 #![tactic(auto)]
+
 mod pattern;
 mod rate;
 mod row;

@@ -1,7 +1,7 @@
 -- The states of the register come round after 511 shifts, and not before.
 -- Assumes nothing.
-use Rattle.std.proofs.Common.{◌≡◌, ℕ, zero, suc, ◌+◌, ◌-◌, ◌*◌, ◌/◌, ◌%◌, ◌<◌, ◌≤◌, Bool, true, false, not, ◌&&◌, eqb, sym, refl, ap, ◌∙◌, subst, ⊎_elim, le_of_suc-le-suc, add-zero, arith}
-use Rattle.std.proofs.lemmas.Nat.{div-add-mod', mod_below}
+use Rattle.std.proofs.Common.{◌≡◌, ℕ, zero, suc, ◌+◌, ◌-◌, ◌*◌, ◌/◌, ◌%◌, ◌<◌, Bool, true, not, ◌&&◌, eqb, sym, refl, ap, ◌∙◌, ⊎_elim, le_of_suc-le-suc, arith}
+use Rattle.std.proofs.lemmas.Nat.{div-add-mod'}
 use Rattle.std.proofs.lemmas.Bool.{and_parts, not-true, eqb-false, cases_order}
 use Rattle.scrambler.specs.Shifts.{shift, shifts, state_after, HasPeriod511}
 use Rattle.scrambler.proofs.Shifting.{shifts_add}

@@ -1,8 +1,8 @@
 -- The bits that enter the register obey its polynomial.
 -- Assumes nothing.
-use Rattle.std.proofs.Common.{◌≡◌, ℕ, zero, suc, ◌+◌, ◌-◌, ◌*◌, ◌/◌, ◌%◌, ◌^◌, ◌<◌, ◌≤◌, sym, refl, ap, ◌∙◌, subst, mod-eq_of_lt, one-add, arith}
+use Rattle.std.proofs.Common.{◌≡◌, ℕ, zero, suc, ◌+◌, ◌/◌, ◌%◌, ◌^◌, sym, refl, ap, ◌∙◌, mod-eq_of_lt, one-add, arith}
 use Rattle.std.proofs.lemmas.Nat.{shr-shr, field_of, mod-pow-add, pow_below}
-use Rattle.scrambler.specs.Shifts.{bit, fresh, shift, shifts, state_after, drawn, newest, StartsWithOne, ObeysPolynomial}
+use Rattle.scrambler.specs.Shifts.{bit, fresh, shift, shifts, state_after, newest, StartsWithOne, ObeysPolynomial}
 use Rattle.scrambler.proofs.Shifting.{shifts_more, shifts_add, loaded}
 
 pub starts_with_one : StartsWithOne

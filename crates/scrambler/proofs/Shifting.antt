@@ -1,9 +1,9 @@
 -- Shifts of the register: they stay within nine bits, and add up.
 -- Assumes nothing.
-use Rattle.std.proofs.Common.{◌≡◌, ℕ, zero, suc, ◌+◌, ◌-◌, ◌*◌, ◌/◌, ◌%◌, ◌^◌, ◌<◌, ◌≤◌, sym, refl, ap, ◌∙◌, subst, mul_comm, add-mul, suc-add, zero-add, zero-mul, add-one, arith}
+use Rattle.std.proofs.Common.{◌≡◌, ℕ, zero, suc, ◌+◌, ◌-◌, ◌*◌, ◌/◌, ◌%◌, ◌^◌, ◌<◌, ◌≤◌, sym, refl, ap, ◌∙◌, mul_comm, add-mul, suc-add, zero-add, zero-mul, add-one, arith}
 use lib.Bits.{bit_and, bit_or, bit_xor}
 use Rattle.std.proofs.lemmas.Nat.{and_mask, xor_mod, or_shifted, one_shl}
-use Rattle.scrambler.specs.Shifts.{bit, fresh, shift, shifts, state_after}
+use Rattle.scrambler.specs.Shifts.{fresh, shift, shifts, state_after}
 
 xor_bits : (a b : ℕ) → a < 2 → b < 2 → bit_xor a b ≡ (a + b) % 2
 xor_bits zero zero h k = refl

@@ -1,12 +1,12 @@
 -- Values are below 2 to the power of the width.
 -- Assumes nothing.
-use Rattle.std.specs.Prelude.{◌≡◌, ℕ, zero, suc, ◌+◌, ◌*◌, ◌%◌, ◌^◌, ◌<◌, ◌≤◌, Bool, true, false, ◌&&◌, ◌||◌, List, [], ◌∷◌, map, length, Some, None, ◌==◌, slice_index, refl}
-use Rattle.std.proofs.Common.{sym, ap, subst, ◌∙◌, ⊎_elim, zero-add, le_of_suc-le-suc, arith}
+use Rattle.std.specs.Prelude.{◌≡◌, ℕ, zero, suc, ◌^◌, ◌<◌, ◌≤◌, true, List, [], ◌∷◌, length, Some, None, ◌==◌, slice_index, refl}
+use Rattle.std.proofs.Common.{sym, ap, ◌∙◌, ⊎_elim, zero-add, le_of_suc-le-suc, arith}
 use Rattle.std.proofs.lemmas.Nat.{mod_below, pow_pos}
 use Rattle.std.proofs.lemmas.List.FromFn.{length-map-range_with_len, get_or-map-range_with_len}
 use Rattle.std.proofs.lemmas.Bool.{and_parts, or_cases, leb-true, eqb-true, ltb-true, cond_below, cond_above}
 use Rattle.plan.specs.Questions.{within, all_below}
-use Rattle.scrambler.specs.Meaning.{Meaning, value_at}
+use Rattle.scrambler.specs.Meaning.{value_at}
 use Rattle.scrambler.specs.Questions.{width_fits, table_fits}
 use Rattle.scrambler.specs.Shifts.{drawn, drawn_values}
 

@@ -1,5 +1,6 @@
 // Scramblers: a trait by its meaning, and the two kinds, a table and a register.
 #![tactic(auto)]
+
 mod register;
 mod scrambler;
 mod table;

@@ -11,16 +11,16 @@ returns c =
     let s : Scheme = record {
       constraint = c.from.result;
       period = c.from-2.result;
-      entries = c.in-ok-send-list.send_list.items;
-      block = c.three-block-length.result;
+      entries = c.in_ok-send_list.send_list.items;
+      block = c.three-block_length.result;
       bits = c.from-3.result;
       frame = c.from-4.result;
       increment = c.three-increment.result;
     } in
     let long : length last ≡ 9 = search rules in
-    let bits : get_or last 3 0 < 256 = (c.type-inv.last 3).fits in
+    let bits : get_or last 3 0 < 256 = (c.type_inv.last 3).fits in
     let same : c.from-3.result % 256 ≡ get_or last 3 0 = omega (arith, c.from-3.ensures) in
-    parts_read s c.args.constraint c.args.period list last c.from.ensures c.from-2.ensures c.in-ok-send-list.ensures.items
-    (c.ranges.constraint.fits, c.ranges.period.fits, c.requires, typed_bytes list c.type-inv.list)
-    (c.three-block-length.ensures.small, (omega (arith, c.from-3.ensures), (omega (arith, c.from-4.ensures, c.two-frame-length.type-inv), (c.three-increment.ensures.small, tt))))
-    (cc (spelled 9 last long, c.three-block-length.ensures.value, c.two-frame-length.ensures, c.three-increment.ensures.value, c.from-4.ensures, same))
+    parts_read s c.args.constraint c.args.period list last c.from.ensures c.from-2.ensures c.in_ok-send_list.ensures.items
+    (c.ranges.constraint.fits, c.ranges.period.fits, c.requires, typed_bytes list c.type_inv.list)
+    (c.three-block_length.ensures.small, (omega (arith, c.from-3.ensures), (omega (arith, c.from-4.ensures, c.two-frame_length.type_inv), (c.three-increment.ensures.small, tt))))
+    (cc (spelled 9 last long, c.three-block_length.ensures.value, c.two-frame_length.ensures, c.three-increment.ensures.value, c.from-4.ensures, same))

@@ -12,24 +12,24 @@ returns-then-rest-entries c = inr (
       omega (arith, plan_long bytes s.0 s.1, ap length (take_rest bytes 3), length-drop 3 bytes, c.if-rest-entries.true, c.from-entries.ensures),
 )
 
-pub returns-in-err-parts : goal.returns-in-err-parts
-returns-in-err-parts c =
-    let p = err_from_is_err_and c.from-residual.result c.from-residual.ensures.1 in
+pub returns-in_err-parts : goal.returns-in_err-parts
+returns-in_err-parts c =
+    let p = err_from_is_err_and c.from_residual.result c.from_residual.ensures.1 in
     let bytes = c.args.bytes.now in
     rw (p.1, p.2) (⊎_elim inl
     (λ h. inr (
       h.0,
       λ s.
-          let nine : length c.split-at.result.1.now ≡ 9 = omega (arith, plan_long bytes s.0 s.1, ap length (take_rest bytes 3), length-drop 3 bytes, c.split-at.ensures.back_len, c.from-entries.ensures) in
+          let nine : length c.split_at.result.1.now ≡ 9 = omega (arith, plan_long bytes s.0 s.1, ap length (take_rest bytes 3), length-drop 3 bytes, c.split_at.ensures.back_len, c.from-entries.ensures) in
           h.1 nine,
     ))
-    c.in-err-parts.ensures)
+    c.in_err-parts.ensures)
 
 pub returns : goal.returns
 returns c =
     let bytes = c.args.bytes.now in
     let long : 3 ≤ length bytes = search rules in (
       refl,
-      c.in-ok-parts.ensures.0,
-      cc (c.in-ok-parts.ensures.1, three_first bytes long, c.split-at.ensures.front-len, c.split-at.ensures.by_index.0, c.from-entries.ensures),
+      c.in_ok-parts.ensures.0,
+      cc (c.in_ok-parts.ensures.1, three_first bytes long, c.split_at.ensures.front_len, c.split_at.ensures.by_index.0, c.from-entries.ensures),
     )

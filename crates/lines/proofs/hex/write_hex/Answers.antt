@@ -6,8 +6,8 @@ use Rattle.lines.proofs.hex.write_hex.Goals as goal
 
 pub loop-byte-preserved : goal.loop-byte-preserved
 loop-byte-preserved c =
-    hex_pushed (string_bytes c.args.text.now) (string_bytes c.loop-byte.text) (string_bytes c.write-byte.new.text) c.args.bytes.now c.loop-byte.byte-index
-    c.loop-byte-test.true c.loop-byte.invariant (c.in-ok-write-byte.ensures refl)
+    hex_pushed (string_bytes c.args.text.now) (string_bytes c.loop-byte.text) (string_bytes c.write_byte.new.text) c.args.bytes.now c.loop-byte.byte-index
+    c.loop-byte-test.true c.loop-byte.invariant (c.in_ok-write_byte.ensures refl)
 
 pub returns : goal.returns
 returns c = λ _.

@@ -9,9 +9,9 @@ loop-column-init c = ap (λ r. r ++ listed c.args.repeats 0 c.args.first.now c.a
 pub loop-column-preserved : goal.loop-column-preserved
 loop-column-preserved c =
     let second : c.loop-column.column < length c.args.second.now = omega arith in
-    listed_more (vec_items c.loop-column.list) (vec_items c.list-column.new.list) _ c.args.repeats
+    listed_more (vec_items c.loop-column.list) (vec_items c.list_column.new.list) _ c.args.repeats
     c.loop-column.column c.args.first.now c.args.second.now c.loop-column-test.true second
-    (c.in-ok-list-column.ensures.listed (refl {a = true})) c.loop-column.invariant
+    (c.in_ok-list_column.ensures.listed (refl {a = true})) c.loop-column.invariant
 
 pub returns : goal.returns
 returns c = record {

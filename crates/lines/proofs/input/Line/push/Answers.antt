@@ -3,12 +3,12 @@ use Rattle.std.proofs.lemmas.Bool.{true≢false}
 use Rattle.lines.proofs.Keeping.{kept_more, kept_full}
 use Rattle.lines.proofs.input.Line.push.Goals as goal
 
-pub returns-in-ok-push : goal.returns-in-ok-push
-returns-in-ok-push c =
+pub returns-in_ok-push : goal.returns-in_ok-push
+returns-in_ok-push c =
     let held = c.args.self.now.kept in
     let short : length (vec_items held) < 2081 = omega (arith, held.ok.0, c.len.ensures) in
     record {
-      kept = λ _ line e. c.in-ok-push.ensures.items ∙ kept_more line (vec_items held) c.args.byte e short;
+      kept = λ _ line e. c.in_ok-push.ensures.items ∙ kept_more line (vec_items held) c.args.byte e short;
       refused = λ f. absurd (true≢false f);
     }
 

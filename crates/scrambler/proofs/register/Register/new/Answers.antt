@@ -2,5 +2,5 @@ use Rattle.std.proofs.Common.{sym}
 use Rattle.scrambler.proofs.Shifting.{loaded}
 use Rattle.scrambler.proofs.register.Register.new.Goals as goal
 
-pub invariant-of-result : goal.invariant-of-result
-invariant-of-result c = (sym c.if-not-width-fits.ensures, (sym (loaded c.args.width), tt))
+pub invariant_of-result : goal.invariant_of-result
+invariant_of-result c = record { fits = sym c.if-not-width_fits.ensures; stands = sym (loaded c.args.width) }

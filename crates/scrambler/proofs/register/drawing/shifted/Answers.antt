@@ -7,11 +7,11 @@ pub loop-init : goal.loop-init
 unfolding shifts
 loop-init c = refl
 
-pub shifted-once-now-requires : goal.shifted-once-now-requires
-shifted-once-now-requires c = rw c.loop.invariant (shifts_below c.loop.counter c.args.state c.requires)
+pub shifted_once-now-requires : goal.shifted_once-now-requires
+shifted_once-now-requires c = rw c.loop.invariant (shifts_below c.loop.counter c.args.state c.requires)
 
 pub loop-preserved : goal.loop-preserved
-loop-preserved c = c.shifted-once-now.ensures ∙ ap shift c.loop.invariant ∙ sym (shifts_more c.loop.counter c.args.state)
+loop-preserved c = c.shifted_once-now.ensures ∙ ap shift c.loop.invariant ∙ sym (shifts_more c.loop.counter c.args.state)
 
 pub returns : goal.returns
 returns c = c.loop.invariant ∙ ap (λ n. shifts n c.args.state) (omega arith)
