@@ -3,7 +3,7 @@ ghost use Rattle.std.specs.Prelude.{◌≡◌, ◌+◌, ◌*◌, ◌/◌, ◌<�
 ghost use Rattle.code.specs.Answers.{load_answer};
 ghost use Rattle.code.specs.Laws.{Permutes};
 ghost use Rattle.code.specs.Numbers.{read};
-ghost use Rattle.code.specs.Sending.{interleaved, loads, location as location-of};
+ghost use Rattle.code.specs.Sending.{interleaved, loads, location as location_of};
 ghost use Rattle.plan.specs.Faults.{chain_number, outcome};
 ghost use Rattle.plan.specs.Plans.{plan_scheme};
 ghost use Rattle.plan.specs.Scheme.{sent_length};
@@ -12,7 +12,7 @@ use plan::{ChainFault, Plan};
 
 // The location of sent bit n, or none where no such bit is sent.
 pub fn location(plan: &Plan, n: usize) -> Option<usize>
-    ensures value { result ≡ (if nat_lt n (sent_length (plan_scheme plan.now)) then Some (location-of (plan_scheme plan.now) n) else None) }
+    ensures value { result ≡ (if nat_lt n (sent_length (plan_scheme plan.now)) then Some (location_of (plan_scheme plan.now) n) else None) }
     ensures permutes { Permutes (plan_scheme plan.now) }
 {
     if n < plan.sent_length() {
@@ -24,7 +24,7 @@ pub fn location(plan: &Plan, n: usize) -> Option<usize>
 
 fn location_below(plan: &Plan, n: usize) -> usize
     requires { n < sent_length (plan_scheme plan.now) }
-    ensures value { result ≡ location-of (plan_scheme plan.now) n }
+    ensures value { result ≡ location_of (plan_scheme plan.now) n }
     ensures bound { result < sent_length (plan_scheme plan.now) }
 {
     n * plan.parts().increment % plan.sent_length()

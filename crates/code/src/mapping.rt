@@ -2,7 +2,7 @@
 ghost use Rattle.std.specs.Prelude.{◌≡◌, ◌+◌, ◌*◌, ◌/◌, ◌^◌, ◌<◌, ◌≤◌, length, IfOk, nat_lt, slice_index};
 ghost use Rattle.code.specs.Answers.{fetch_answer};
 ghost use Rattle.code.specs.Laws.{Inverts};
-ghost use Rattle.code.specs.Mapping.{phases as phases-of, place_from, symbol_of, number_of, symbol_at};
+ghost use Rattle.code.specs.Mapping.{phases as phases_of, place_from, symbol_of, number_of, symbol_at};
 ghost use Rattle.code.specs.Numbers.{digit, num, read};
 ghost use Rattle.plan.specs.Faults.{chain_number, outcome};
 ghost use Rattle.plan.specs.Plans.{plan_scheme};
@@ -12,7 +12,7 @@ use plan::{ChainFault, Plan};
 
 // The symbols of 1, 2 or 3 bits, in the order of the numbers that the bits write.
 fn phases(bits: usize) -> &'static [u8]
-    ensures value { result.now ≡ phases-of bits }
+    ensures value { result.now ≡ phases_of bits }
     ensures few { length result.now ≤ 8 }
 {
     match bits {

@@ -1,13 +1,13 @@
 -- The fields of a command as bytes: how many there are, and the bytes of each.
 -- Assumes nothing.
-use Rattle.std.proofs.Common.{◌≡◌, ℕ, zero, suc, ◌+◌, ◌-◌, ◌*◌, ◌/◌, ◌%◌, ◌^◌, ◌<◌, ◌≤◌, List, [], ◌∷◌, ◌++◌, map, length, get_or, take, drop, sym, refl, ap, ◌∙◌, subst, append_assoc, arith, length-append, w8, Fits}
+use Rattle.std.proofs.Common.{◌≡◌, ℕ, zero, suc, ◌+◌, ◌-◌, ◌/◌, ◌%◌, ◌^◌, ◌<◌, ◌≤◌, List, [], ◌∷◌, ◌++◌, map, length, get_or, take, drop, sym, refl, ap, ◌∙◌, subst, append_assoc, arith, length-append, w8, Fits}
 use Rattle.std.specs.List.{range_with_len}
 use Rattle.std.proofs.lemmas.List.FromFn.{fill_by_all}
 use Rattle.std.proofs.ByRecursion.{All-append, All-push, All-from_get_or}
 use Rattle.std.proofs.lemmas.List.{take_rest}
 use Rattle.plan.specs.Parts.{scheme}
 use Rattle.plan.specs.Scheme.{Scheme}
-use Rattle.lines.specs.Commands.{Field, field, fields, plan_fields, packed, Fitting, kind}
+use Rattle.lines.specs.Commands.{Field, field, plan_fields, packed, Fitting}
 use Rattle.lines.specs.Hex.{Bytes, big_endian}
 use Rattle.lines.specs.Readings.{Holds}
 use Rattle.lines.specs.declared.command.Command.{Command}

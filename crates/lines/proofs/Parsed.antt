@@ -1,6 +1,6 @@
 -- From the first character and the fields to the whole line.
 -- Assumes nothing.
-use Rattle.std.proofs.Common.{◌≡◌, ℕ, ◌≤◌, List, [], ◌∷◌, length, Ok, Err, Result, sym, refl, ap, ◌∙◌, inl, inr, ⊎_elim}
+use Rattle.std.proofs.Common.{◌≡◌, ℕ, ◌≤◌, List, ◌∷◌, length, Ok, Err, Result, ap, inl, inr, ⊎_elim}
 use Rattle.lines.specs.Commands.{kind, fields, packed, Writes}
 use Rattle.lines.specs.Hex.{hex, Bytes}
 use Rattle.lines.specs.Readings.{Refuses, Holds, FieldReading, LineReading}

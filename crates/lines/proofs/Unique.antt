@@ -1,11 +1,11 @@
 -- The bytes of fields tell the fields, and a line its command's.
 -- Assumes nothing.
-use Rattle.std.proofs.Common.{◌≡◌, ℕ, zero, suc, ◌+◌, ◌*◌, ◌/◌, ◌%◌, ◌^◌, ◌<◌, ◌≤◌, cond, eqb, List, [], ◌∷◌, ◌++◌, map, length, get_or, replicate, vec_items, sym, refl, ap, ◌∙◌, arith}
+use Rattle.std.proofs.Common.{◌≡◌, ℕ, zero, suc, ◌/◌, ◌%◌, ◌^◌, ◌<◌, cond, eqb, List, [], ◌∷◌, ◌++◌, map, length, get_or, replicate, vec_items, sym, refl, ap, ◌∙◌, arith}
 use mathlib.Core.List.{map-append}
 use native.Mathlib.Nat.{pow-succ'}
 use Rattle.std.proofs.lemmas.List.{length_push, same_from_push}
 use Rattle.plan.specs.Parts.{scheme}
-use Rattle.lines.specs.Commands.{Field, field, fields, kind, packed, Fitting, Writes}
+use Rattle.lines.specs.Commands.{Field, field, fields, kind, packed, Fitting}
 use Rattle.lines.specs.Hex.{hex, big_endian}
 use Rattle.lines.specs.Laws.{OneReading}
 use Rattle.lines.specs.declared.command.Command.{Command}

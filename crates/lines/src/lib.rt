@@ -32,7 +32,7 @@ mod tests {
         else {
             return Err(Fail::new("the line is no plan's"));
         };
-        assert_eq!(rt; parts.send_list.as_slice(), &[0, 1, 2, 5]);
+        assert_eq!(rt; parts.send_list.as_slice(), [0, 1, 2, 5].as_slice());
         assert_eq!(rt;
             (parts.constraint, parts.period, parts.symbol_bits),
             (7, 3, 3)

@@ -4,7 +4,7 @@ ghost use Rattle.plan.specs.Faults.{chain_number, outcome};
 ghost use Rattle.plan.specs.Plans.{plan_scheme};
 ghost use Rattle.receiver.specs.Receivers.{view_of};
 ghost use Rattle.replay.specs.Given.{given};
-ghost use Rattle.replay.specs.Ledger.{answer, answers as all-answers, after, after_all};
+ghost use Rattle.replay.specs.Ledger.{answer, answers as all_answers, after, after_all};
 
 use crate::call::Call;
 use crate::lending::{blank_lent, hear_lent, note_lent};
@@ -34,10 +34,10 @@ fn carry_out<S: Scrambler + Drop, K: Kind>(
     scores: &mut [K::Score],
     marks: &mut [u8],
 ) -> Result<(), ChainFault>
-    ensures answer { outcome chain_number result ≡ answer (view_of meaning receiver.old) (given memory.old block.old scores.old marks.old) call }
-    ensures after { memory.new ≡ after (view_of meaning receiver.old) (given memory.old block.old scores.old marks.old) call memory.old }
+    ensures answer { outcome chain_number result ≡ answer (view_of S.meaning receiver.old) (given memory.old block.old scores.old marks.old) call }
+    ensures after { memory.new ≡ after (view_of S.meaning receiver.old) (given memory.old block.old scores.old marks.old) call memory.old }
     ensures rest { let b = (plan_scheme receiver.old.plan).block in drop b block.new ≡ drop b block.old }
-    ensures kept { view_of meaning receiver.new ≡ view_of meaning receiver.old }
+    ensures kept { view_of S.meaning receiver.new ≡ view_of S.meaning receiver.old }
 {
     match call {
         Call::Hear {
@@ -71,10 +71,10 @@ pub(crate) fn run<S: Scrambler + Drop, K: Kind>(
 )
     requires empty { answers.old.items ≡ [] }
     requires room { length calls.now ≤ vec_capacity answers.old }
-    ensures answers { map (outcome chain_number) answers.new.items ≡ all-answers (view_of meaning receiver.old) (given memory.old block.old scores.old marks.old) calls.now }
-    ensures after { memory.new ≡ after_all (view_of meaning receiver.old) (given memory.old block.old scores.old marks.old) calls.now memory.old }
+    ensures answers { map (outcome chain_number) answers.new.items ≡ all_answers (view_of S.meaning receiver.old) (given memory.old block.old scores.old marks.old) calls.now }
+    ensures after { memory.new ≡ after_all (view_of S.meaning receiver.old) (given memory.old block.old scores.old marks.old) calls.now memory.old }
     ensures rest { let b = (plan_scheme receiver.old.plan).block in drop b block.new ≡ drop b block.old }
-    ensures kept { view_of meaning receiver.new ≡ view_of meaning receiver.old }
+    ensures kept { view_of S.meaning receiver.new ≡ view_of S.meaning receiver.old }
 {
     for call in calls {
         let answer = carry_out(receiver, kind, *call, memory, block, scores, marks);

@@ -18,9 +18,9 @@ pub(crate) fn hear_lent<S: Scrambler + Drop>(
     index: u8,
     weight: u16,
 ) -> Result<(), ChainFault>
-    ensures answer { outcome chain_number result ≡ hear_answer (view_of meaning receiver.old) (min lent (length memory.old)) place index weight }
-    ensures after { memory.new ≡ (if is_ok result then after_hear (view_of meaning receiver.old) place index weight memory.old else memory.old) }
-    ensures kept { view_of meaning receiver.new ≡ view_of meaning receiver.old }
+    ensures answer { outcome chain_number result ≡ hear_answer (view_of S.meaning receiver.old) (min lent (length memory.old)) place index weight }
+    ensures after { memory.new ≡ (if is_ok result then after_hear (view_of S.meaning receiver.old) place index weight memory.old else memory.old) }
+    ensures kept { view_of S.meaning receiver.new ≡ view_of S.meaning receiver.old }
 {
     let lent = lent.min(memory.len());
     receiver.hear(&mut memory[0..lent], place, index, weight)
@@ -35,7 +35,7 @@ pub(crate) fn note_lent<S: Scrambler + Drop>(
 ) -> Result<(), ChainFault>
     ensures answer { outcome chain_number result ≡ note_answer (plan_scheme receiver.old.plan) (min lent (length memory.old)) location value }
     ensures after { memory.new ≡ (if is_ok result then after_note location value memory.old else memory.old) }
-    ensures kept { view_of meaning receiver.new ≡ view_of meaning receiver.old }
+    ensures kept { view_of S.meaning receiver.new ≡ view_of S.meaning receiver.old }
 {
     let lent = lent.min(memory.len());
     receiver.note(&mut memory[0..lent], location, value)
@@ -49,7 +49,7 @@ pub(crate) fn blank_lent<S: Scrambler + Drop>(
 ) -> Result<(), ChainFault>
     ensures answer { outcome chain_number result ≡ blank_answer (plan_scheme receiver.old.plan) (min lent (length memory.old)) place }
     ensures after { memory.new ≡ (if is_ok result then after_blank (plan_scheme receiver.old.plan) place memory.old else memory.old) }
-    ensures kept { view_of meaning receiver.new ≡ view_of meaning receiver.old }
+    ensures kept { view_of S.meaning receiver.new ≡ view_of S.meaning receiver.old }
 {
     let lent = lent.min(memory.len());
     receiver.blank(&mut memory[0..lent], place)

@@ -41,12 +41,12 @@ pub fn replay<S: Scrambler + Drop, K: Kind>(
     scores: &mut [K::Score],
     marks: &mut [u8],
 ) -> Result<Replayed<K::Score>, ChainFault>
-    ensures answer { outcome chain_number result ≢ 255 → outcome chain_number result ≡ making_answer (view plan (meaning scrambler)) (length memory.old) }
-    ensures answers { let v = view plan (meaning scrambler) in let w = given memory.old block.old scores.old marks.old in IfOk result (λ x. map (outcome chain_number) x.answers.items ≡ answers v w calls.now) }
+    ensures answer { outcome chain_number result ≢ 255 → outcome chain_number result ≡ making_answer (view plan (S.meaning scrambler)) (length memory.old) }
+    ensures answers { let v = view plan (S.meaning scrambler) in let w = given memory.old block.old scores.old marks.old in IfOk result (λ x. map (outcome chain_number) x.answers.items ≡ answers v w calls.now) }
     ensures looked { let w = given memory.old block.old scores.old marks.old in IfOk result (λ x. outcome chain_number x.shown ≡ search_answer (plan_scheme plan) w) }
-    ensures promise { let v = view plan (meaning scrambler) in let w = given memory.old block.old scores.old marks.old in IfOk result (λ x. IfOk x.shown (λ score. Promise (K.Kind.scale kind.now) v w calls.now (bits_of block.new) score)) }
-    ensures written { let s = plan_scheme plan in let w = given memory.old block.old scores.old marks.old in IfOk result (λ x. is_ok x.shown ≡ true → block.new ≡ shown (K.Kind.scale kind.now) s (value_at (ledger (view plan (meaning scrambler)) w calls.now)) block.old) }
-    ensures values { let v = view plan (meaning scrambler) in let w = given memory.old block.old scores.old marks.old in (is_ok result ≡ true → take (sent_length (plan_scheme plan)) memory.new ≡ ledger v w calls.now) }
+    ensures promise { let v = view plan (S.meaning scrambler) in let w = given memory.old block.old scores.old marks.old in IfOk result (λ x. IfOk x.shown (λ score. Promise (K.Kind.scale kind.now) v w calls.now (bits_of block.new) score)) }
+    ensures written { let s = plan_scheme plan in let w = given memory.old block.old scores.old marks.old in IfOk result (λ x. is_ok x.shown ≡ true → block.new ≡ shown (K.Kind.scale kind.now) s (value_at (ledger (view plan (S.meaning scrambler)) w calls.now)) block.old) }
+    ensures values { let v = view plan (S.meaning scrambler) in let w = given memory.old block.old scores.old marks.old in (is_ok result ≡ true → take (sent_length (plan_scheme plan)) memory.new ≡ ledger v w calls.now) }
     ensures rest { let n = sent_length (plan_scheme plan) in drop n memory.new ≡ drop n memory.old }
     ensures past { let b = (plan_scheme plan).block in drop b block.new ≡ drop b block.old }
     ensures memory { is_ok result ≡ false → memory.new ≡ memory.old }

@@ -1,6 +1,6 @@
 -- What the laws of a kind of score say of many values.
 -- Assumes nothing.
-use Rattle.std.proofs.Common.{◌≡◌, Bool, true, false, ◌⊎◌, List, [], ◌∷◌, ℤ, sym, ◌∙◌, ⊎_elim}
+use Rattle.std.proofs.Common.{◌≡◌, Bool, true, false, List, [], ◌∷◌, ℤ, sym, ◌∙◌, ⊎_elim}
 use Rattle.std.proofs.lemmas.Bool.{true≢false, and_parts, and_from, or_cases, cases_Bool, not-true, not_from_false}
 use Rattle.score.specs.Values.{contradicted}
 use Rattle.score.specs.Scale.{Scale, Lawful, better}

@@ -15,7 +15,7 @@ abbrev pub total_scale : Scale ℕ
 total_scale = record {
   start = 0;
   extended = λ s value bit. added s (weight value bit);
-  no_worse = leb;
+  no_worse = nat_le;
 }
 
 -- Worst keeps the greatest weight
@@ -23,7 +23,7 @@ abbrev pub worst_scale : Scale ℕ
 worst_scale = record {
   start = 0;
   extended = λ s value bit. max s (weight value bit);
-  no_worse = leb;
+  no_worse = nat_le;
 }
 
 -- one contradicted place more: a count that reaches the greatest number of 32 bits is full

@@ -1,5 +1,6 @@
 // How badly a block fits what was heard: kinds of score, and the score of a block.
 #![tactic(auto)]
+
 mod block;
 mod gathered;
 mod kind;

@@ -1,8 +1,8 @@
 -- Scrambling is taken off again.
 -- Assumes nothing.
-use Rattle.std.proofs.Common.{◌≡◌, ℕ, zero, suc, ◌+◌, ◌-◌, ◌*◌, ◌/◌, ◌%◌, ◌^◌, ◌<◌, ◌≤◌, Bool, true, false, cond, leb, sym, refl, ap, ◌∙◌, subst, arith}
+use Rattle.std.proofs.Common.{◌≡◌, ℕ, ◌+◌, ◌-◌, ◌%◌, ◌^◌, ◌<◌, Bool, true, false, cond, leb, ap, ◌∙◌, arith}
 use lib.Bits.{bit_xor, xor_assoc, xor_self, xor_zero_r, xor_lt}
-use Rattle.sender.specs.Scrambling.{needed_width, scrambled, unscrambled}
+use Rattle.sender.specs.Scrambling.{scrambled, unscrambled}
 use Rattle.sender.specs.Laws.{ComesBack}
 
 sum_back : (y v : ℕ) → y < 8 → v < 8 → ((y + v) % 8 + (8 - v % 8)) % 8 ≡ y

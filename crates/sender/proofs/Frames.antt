@@ -1,7 +1,7 @@
 -- The places of a frame, and the values for the symbols there.
 -- Assumes nothing.
-use Rattle.std.proofs.Common.{◌≡◌, ℕ, ◌+◌, ◌/◌, ◌%◌, ◌<◌, ◌≤◌, Bool, true, false, cond, eqb, ltb, leb, List, Some, sym, refl, ap, ◌∙◌, mod-eq_of_lt, arith}
-use native.Mathlib.Nat.{mod_self, mod-add-mod}
+use Rattle.std.proofs.Common.{◌≡◌, ℕ, ◌+◌, ◌%◌, ◌<◌, ◌≤◌, true, eqb, ltb, leb, Some, sym, ap, ◌∙◌, mod-eq_of_lt, arith}
+use native.Mathlib.Nat.{mod_self}
 use Rattle.std.proofs.lemmas.Nat.{mod_below}
 use Rattle.std.proofs.lemmas.Bool.{and_parts, leb-true, lt-ltb, le-ltb, lt-leb, cond-true, cond-false}
 use Rattle.plan.specs.Scheme.{Scheme, sent_length}

@@ -1,6 +1,6 @@
 -- A call that answers 0 was accepted.
 -- Assumes nothing.
-use Rattle.std.proofs.Common.{◌≡◌, ℕ, true, is_ok, Ok, Err, Result, refl, arith}
+use Rattle.std.proofs.Common.{◌≡◌, true, is_ok, Ok, Err, Result, refl, arith}
 use Rattle.plan.specs.Faults.{plan_number, chain_number, outcome}
 use Rattle.plan.specs.declared.fault.ChainFault.{ChainFault}
 use Rattle.plan.specs.declared.fault.ChainFault.TheVariants.{Plan, Row, Scrambler, Fit, Block, TooShort, Place, Index, Mapping, Location, OutOfMemory}

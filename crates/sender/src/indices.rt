@@ -2,7 +2,7 @@
 ghost use Rattle.std.specs.Prelude.{◌≡◌, ◌+◌, ◌%◌, ◌<◌, ◌≤◌, true, ◌++◌, map, length, drop};
 ghost use Rattle.plan.specs.Plans.{plan_scheme};
 ghost use Rattle.plan.specs.Scheme.{sent_length};
-ghost use Rattle.sender.specs.Scrambling.{fits as scheme-fits};
+ghost use Rattle.sender.specs.Scrambling.{fits as scheme_fits};
 ghost use Rattle.sender.specs.Transmission.{symbols, index_at};
 ghost use Rattle.std.specs.List.{range_with_len};
 
@@ -31,12 +31,12 @@ fn on_air_index<S: Scrambler>(
     i: usize,
     place: usize,
 ) -> u8
-    requires fit { scheme-fits (plan_scheme plan.now) (meaning scrambler.old) ≡ true }
+    requires fit { scheme_fits (plan_scheme plan.now) (S.meaning scrambler.old) ≡ true }
     requires whole { length array.now ≡ sent_length (plan_scheme plan.now) }
     requires below { i < symbols (plan_scheme plan.now) }
     requires placed { place ≡ i % (plan_scheme plan.now).frame }
-    ensures value { result ≡ index_at (plan_scheme plan.now) (meaning scrambler.old) array.now i }
-    ensures kept { meaning scrambler.new ≡ meaning scrambler.old }
+    ensures value { result ≡ index_at (plan_scheme plan.now) (S.meaning scrambler.old) array.now i }
+    ensures kept { S.meaning scrambler.new ≡ S.meaning scrambler.old }
 {
     let symbol = symbol_at(plan, array, i).unwrap();
     let value = scrambler.value(place).unwrap();
@@ -50,11 +50,11 @@ pub(crate) fn write_indices<S: Scrambler>(
     array: &[bool],
     out: &mut [u8],
 )
-    requires fit { scheme-fits (plan_scheme plan.now) (meaning scrambler.old) ≡ true }
+    requires fit { scheme_fits (plan_scheme plan.now) (S.meaning scrambler.old) ≡ true }
     requires whole { length array.now ≡ sent_length (plan_scheme plan.now) }
     requires room { symbols (plan_scheme plan.now) ≤ length out.old }
-    ensures after { out.new ≡ map (index_at (plan_scheme plan.now) (meaning scrambler.old) array.now) (range_with_len 0 (symbols (plan_scheme plan.now))) ++ drop (symbols (plan_scheme plan.now)) out.old }
-    ensures kept { meaning scrambler.new ≡ meaning scrambler.old }
+    ensures after { out.new ≡ map (index_at (plan_scheme plan.now) (S.meaning scrambler.old) array.now) (range_with_len 0 (symbols (plan_scheme plan.now))) ++ drop (symbols (plan_scheme plan.now)) out.old }
+    ensures kept { S.meaning scrambler.new ≡ S.meaning scrambler.old }
 {
     let mut place = 0;
     for i in 0..plan.symbols() {

@@ -1,7 +1,7 @@
 // Scrambling a symbol, and taking the scrambling off.
 ghost use Rattle.std.specs.Prelude.{◌≡◌};
 ghost use Rattle.plan.specs.Plans.{plan_scheme};
-ghost use Rattle.sender.specs.Scrambling.{needed_width, scrambled, unscrambled, fits as scheme-fits};
+ghost use Rattle.sender.specs.Scrambling.{needed_width, scrambled, unscrambled, fits as scheme_fits};
 
 use plan::Plan;
 use scrambler::Scrambler;
@@ -37,8 +37,8 @@ pub fn needed_width(bits: usize) -> usize
 
 // Whether the scrambler has the width that the plan needs, and a value for every symbol of a frame.
 pub fn fits<S: Scrambler>(plan: &Plan, scrambler: &mut S) -> bool
-    ensures answer { result ≡ scheme-fits (plan_scheme plan.now) (meaning scrambler.old) }
-    ensures kept { meaning scrambler.new ≡ meaning scrambler.old }
+    ensures answer { result ≡ scheme_fits (plan_scheme plan.now) (S.meaning scrambler.old) }
+    ensures kept { S.meaning scrambler.new ≡ S.meaning scrambler.old }
 {
     let width = scrambler.width();
     let reach = scrambler.reach();

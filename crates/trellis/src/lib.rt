@@ -1,5 +1,6 @@
 // The search for the best block that goes round a trellis: what knows no kind of score.
 #![tactic(auto)]
+
 mod column;
 mod theorem;
 mod trellis;

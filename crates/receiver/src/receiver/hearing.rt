@@ -17,8 +17,8 @@ use sender::{fits, unscramble};
 impl<S: Scrambler + Drop> Receiver<S> {
     // A receiver by this plan, where the scrambler fits it; the values of all locations become 0.
     pub fn new(plan: Plan, mut scrambler: S, memory: &mut [i16]) -> Result<Receiver<S>, ChainFault>
-        ensures answer { outcome chain_number result ≡ making_answer (view plan (meaning scrambler)) (length memory.old) }
-        ensures made { IfOk result (λ x. view_of meaning x ≡ view plan (meaning scrambler)) }
+        ensures answer { outcome chain_number result ≡ making_answer (view plan (S.meaning scrambler)) (length memory.old) }
+        ensures made { IfOk result (λ x. view_of S.meaning x ≡ view plan (S.meaning scrambler)) }
         ensures after { memory.new ≡ (if is_ok result then after_making (plan_scheme plan) memory.old else memory.old) }
     {
         if !fits(&plan, &mut scrambler) {
@@ -47,7 +47,7 @@ impl<S: Scrambler + Drop> Receiver<S> {
     ) -> Result<(), ChainFault>
         ensures answer { outcome chain_number result ≡ note_answer (plan_scheme self.old.plan) (length memory.old) location value }
         ensures after { memory.new ≡ (if is_ok result then after_note location value memory.old else memory.old) }
-        ensures kept { view_of meaning self.new ≡ view_of meaning self.old }
+        ensures kept { view_of S.meaning self.new ≡ view_of S.meaning self.old }
     {
         if !is_lent(&self.plan, memory.len()) {
             return Err(ChainFault::TooShort);
@@ -63,7 +63,7 @@ impl<S: Scrambler + Drop> Receiver<S> {
     pub fn blank(&mut self, memory: &mut [i16], place: usize) -> Result<(), ChainFault>
         ensures answer { outcome chain_number result ≡ blank_answer (plan_scheme self.old.plan) (length memory.old) place }
         ensures after { memory.new ≡ (if is_ok result then after_blank (plan_scheme self.old.plan) place memory.old else memory.old) }
-        ensures kept { view_of meaning self.new ≡ view_of meaning self.old }
+        ensures kept { view_of S.meaning self.new ≡ view_of S.meaning self.old }
     {
         if !is_lent(&self.plan, memory.len()) {
             return Err(ChainFault::TooShort);
@@ -87,9 +87,9 @@ impl<S: Scrambler + Drop> Receiver<S> {
         index: u8,
         weight: u16,
     ) -> Result<(), ChainFault>
-        ensures answer { outcome chain_number result ≡ hear_answer (view_of meaning self.old) (length memory.old) place index weight }
-        ensures after { memory.new ≡ (if is_ok result then after_hear (view_of meaning self.old) place index weight memory.old else memory.old) }
-        ensures kept { view_of meaning self.new ≡ view_of meaning self.old }
+        ensures answer { outcome chain_number result ≡ hear_answer (view_of S.meaning self.old) (length memory.old) place index weight }
+        ensures after { memory.new ≡ (if is_ok result then after_hear (view_of S.meaning self.old) place index weight memory.old else memory.old) }
+        ensures kept { view_of S.meaning self.new ≡ view_of S.meaning self.old }
     {
         if !fits(&self.plan, &mut self.scrambler) {
             return Err(ChainFault::Fit);
@@ -119,9 +119,9 @@ impl<S: Scrambler + Drop> Receiver<S> {
 
 // The number that a symbol's bits write, once the scrambling is off.
 fn number_heard<S: Scrambler>(plan: &Plan, scrambler: &mut S, place: usize, index: u8) -> Option<u8>
-    requires { view_fits (view plan.now (meaning scrambler.old)) ≡ true }
-    ensures value { result ≡ heard (view plan.now (meaning scrambler.old)) place index }
-    ensures kept { meaning scrambler.new ≡ meaning scrambler.old }
+    requires { view_fits (view plan.now (S.meaning scrambler.old)) ≡ true }
+    ensures value { result ≡ heard (view plan.now (S.meaning scrambler.old)) place index }
+    ensures kept { S.meaning scrambler.new ≡ S.meaning scrambler.old }
 {
     let value = scrambler.value(place % plan.parts().frame_length).unwrap();
     number_for(plan, unscramble(plan.parts().symbol_bits, index, value))

@@ -1,7 +1,6 @@
-use Rattle.std.proofs.Common.{◌≡◌, ◌%◌, ◌<◌, length, get_or, refl, arith, rules}
+use Rattle.std.proofs.Common.{◌≡◌, ◌%◌, ◌<◌, length, get_or, arith, rules}
 use Rattle.plan.specs.Scheme.{Scheme}
-use Rattle.lines.specs.Commands.{packed}
-use Rattle.lines.proofs.Fielded.{spelled, last_fields, parts_read, typed_bytes}
+use Rattle.lines.proofs.Fielded.{spelled, parts_read, typed_bytes}
 use Rattle.lines.proofs.fields.read_parts.Goals as goal
 
 pub returns : goal.returns

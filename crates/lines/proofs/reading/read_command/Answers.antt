@@ -1,4 +1,4 @@
-use Rattle.std.proofs.Common.{◌≡◌, vec_items, rules}
+use Rattle.std.proofs.Common.{vec_items, rules}
 use Rattle.lines.proofs.Fielded.{fitting_single, packed_single}
 use Rattle.lines.proofs.reading.read_command.Goals as goal
 

@@ -1,4 +1,4 @@
-use Rattle.std.proofs.Common.{◌≡◌, ℕ, ◌≤◌, cond, eqb, length, sym, ap, arith}
+use Rattle.std.proofs.Common.{ℕ, ◌≤◌, cond, eqb, length, sym, ap, arith}
 use Rattle.std.proofs.lemmas.List.{get_or_past}
 use Rattle.lines.proofs.writing.bit.Goals as goal
 

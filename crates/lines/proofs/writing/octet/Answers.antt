@@ -1,5 +1,5 @@
-use Rattle.std.proofs.Common.{◌≡◌, ◌+◌, ◌*◌, ◌≤◌, sym, ap, ◌∙◌, add-one, arith}
-use Rattle.lines.specs.Answers.{bit_at, bits_number}
+use Rattle.std.proofs.Common.{◌+◌, ◌*◌, ◌≤◌, sym, ap, ◌∙◌, add-one, arith}
+use Rattle.lines.specs.Answers.{bits_number}
 use Rattle.lines.proofs.Written.{bit_le, bits_small}
 use Rattle.lines.proofs.writing.octet.Goals as goal
 

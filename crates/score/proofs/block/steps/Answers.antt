@@ -9,7 +9,7 @@ use Rattle.score.proofs.block.steps.Goals as goal
 pub loop-t-preserved : goal.loop-t-preserved
 loop-t-preserved g c =
     after_more (g.K.Kind.scale c.args.kind.now) (plan_scheme c.args.plan.now) (value_at c.args.memory.now) (bits_of c.args.block.now)
-    c.loop-t.t c.loop-t.score c.step_score.result c.loop-t.invariant c.step_score.ensures
+    c.loop-t.t c.loop-t.score c.step-score.result c.loop-t.invariant c.step-score.ensures
 
 pub returns : goal.returns
 returns g c =

@@ -15,18 +15,18 @@ small plan parts u i t e h =
     let k = ap (λ (p : Parts). p.constraint) e in
     num_small (around (plan_scheme plan) u) i t (omega arith)
 
-pub overflow-mul-window : goal.overflow-mul-window
-overflow-mul-window c =
+pub overflow_mul-window : goal.overflow_mul-window
+overflow_mul-window c =
     let w = small c.args.plan.now c.parts.result.now (bits_of c.args.block.now) c.loop-i.i c.args.t c.parts.ensures c.loop-i-test.true in
     record { fits = omega (arith, c.loop-i.invariant) }
 
-pub overflow-add-window : goal.overflow-add-window
-overflow-add-window c =
+pub overflow_add-window : goal.overflow_add-window
+overflow_add-window c =
     let w = small c.args.plan.now c.parts.result.now (bits_of c.args.block.now) c.loop-i.i c.args.t c.parts.ensures c.loop-i-test.true in
-    record { fits = omega (arith, c.loop-i.invariant, c.bit-around.ensures, digit_le (bits_of c.args.block.now ((c.args.t + c.loop-i.i) % length c.args.block.now))) }
+    record { fits = omega (arith, c.loop-i.invariant, c.bit_around.ensures, digit_le (bits_of c.args.block.now ((c.args.t + c.loop-i.i) % length c.args.block.now))) }
 
 pub loop-i-preserved : goal.loop-i-preserved
-loop-i-preserved c = num_more (plan_scheme c.args.plan.now) c.args.block.now c.requires.0 c.loop-i.i c.args.t c.loop-i.window c.bit-around.result c.loop-i.invariant c.bit-around.ensures
+loop-i-preserved c = num_more (plan_scheme c.args.plan.now) c.args.block.now c.requires.0 c.loop-i.i c.args.t c.loop-i.window c.bit_around.result c.loop-i.invariant c.bit_around.ensures
 
 pub returns : goal.returns
 returns c =

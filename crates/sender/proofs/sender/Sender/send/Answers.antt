@@ -1,4 +1,4 @@
-use Rattle.std.proofs.Common.{◌≡◌, ◌*◌, ◌++◌, length, drop, sym, refl, ap, ◌∙◌, arith}
+use Rattle.std.proofs.Common.{◌≡◌, ◌*◌, ◌++◌, length, drop, sym, refl, ◌∙◌, arith}
 use Rattle.std.proofs.lemmas.List.{with_items_is}
 use Rattle.plan.specs.Plans.{plan_scheme}
 use Rattle.plan.proofs.Facts.{facts}
@@ -15,16 +15,16 @@ returns g c =
     let s = plan_scheme sender.plan.now in
     let m = g.S.Scrambler.meaning sender.scrambler in
     let u = bits_of c.args.block.now in
-    let word_now = c.as-slice.ensures.value ∙ with_items_is sender.word c.encode.new.word (c.encode.auto.word ∙ c.as-mut-slice.ensures.len) in
-    let array_now = c.as-slice-2.ensures.value ∙ with_items_is sender.array c.load.new.array (c.load.auto.array ∙ c.as-mut-slice-2.ensures.len) in
-    let bits : c.as-slice.result.now ≡ word s u ++ drop (2 * s.block) c.as-mut-slice.result.now = word_now ∙ c.in-ok-encode.ensures.after in
-    let array : c.as-slice-2.result.now ≡ sent_array s u = array_of s (facts s sender.plan.now.accepted) u c.as-slice.result.now c.as-slice-2.result.now c.as-mut-slice-2.result.now _ bits (c.as-mut-slice-2.ensures.len ∙ sender.array_long) (array_now ∙ c.in-ok-load.ensures.after) in
+    let word_now = c.as_slice.ensures.value ∙ with_items_is sender.word c.encode.new.word (c.encode.auto.word ∙ c.as_mut_slice.ensures.len) in
+    let array_now = c.as_slice-2.ensures.value ∙ with_items_is sender.array c.load.new.array (c.load.auto.array ∙ c.as_mut_slice-2.ensures.len) in
+    let bits : c.as_slice.result.now ≡ word s u ++ drop (2 * s.block) c.as_mut_slice.result.now = word_now ∙ c.in_ok-encode.ensures.after in
+    let array : c.as_slice-2.result.now ≡ sent_array s u = array_of s (facts s sender.plan.now.accepted) u c.as_slice.result.now c.as_slice-2.result.now c.as_mut_slice-2.result.now _ bits (c.as_mut_slice-2.ensures.len ∙ sender.array_long) (array_now ∙ c.in_ok-load.ensures.after) in
     let room = length c.args.out.now in
-    let answer = all_yes s m c.args.block.now room (sym c.if-not-fits.ensures.answer) (block_encoded s c.args.block.now _ c.in-ok-encode.ensures.answer) (omega arith) in
+    let answer = all_yes s m c.args.block.now room (sym c.if-not-fits.ensures.answer) (block_encoded s c.args.block.now _ c.in_ok-encode.ensures.answer) (omega arith) in
     record {
       answer = answer;
-      after = transmitted s m _ u c.as-slice-2.result.now c.write-indices.new.out _ array c.fits.ensures.kept c.write-indices.ensures.after;
+      after = transmitted s m _ u c.as_slice-2.result.now c.write_indices.new.out _ array c.fits.ensures.kept c.write_indices.ensures.after;
       plan_kept = refl;
-      meaning_kept = c.write-indices.ensures.kept ∙ c.fits.ensures.kept;
+      meaning_kept = c.write_indices.ensures.kept ∙ c.fits.ensures.kept;
       fit = never_unfit s m c.args.block.now room 0 answer;
     }

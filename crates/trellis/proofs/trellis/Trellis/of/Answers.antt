@@ -9,8 +9,8 @@ use Rattle.trellis.proofs.trellis.Trellis.of.Goals.{then-parts-eq7, else-parts-e
 row_fits : (k row bits : ℕ) → k ≡ bits → 8 * row ≡ 2 ^ (bits - 1) → 8 * row ≡ 2 ^ (k - 1)
 row_fits k row bits e h = subst (λ b. 8 * row ≡ 2 ^ (b - 1)) (sym e) h
 
-pub invariant-of-result : goal.invariant-of-result
-invariant-of-result c =
+pub invariant_of-result : goal.invariant_of-result
+invariant_of-result c =
     let p = c.parts-parts.result.now in
     let f = facts (scheme p) (subst (λ q. plan_answer (scheme q) ≡ 0) (sym c.parts-parts.ensures) c.args.plan.now.accepted) in
     let high : p.constraint ≤ 9 = ⊎_elim (λ e. omega arith) (λ e. omega arith) f.constraint in
@@ -19,4 +19,4 @@ invariant-of-result c =
       | then-parts-eq7 w ↦ row_fits p.constraint _ 7 w.if-parts-eq7.true (omega (arith, w.row-is))
       | else-parts-eq7 w ↦ row_fits p.constraint _ 9 (⊎_elim (λ e. absurd (w.if-parts-eq7.false e)) (λ e. e) f.constraint) (omega (arith, w.row-is))
     ] in
-    (omega arith, (omega (arith, f.block_low), (f.block_high, (rows, tt))))
+    record { small = omega arith; round = omega (arith, f.block_low); long = f.block_high; rows = rows }

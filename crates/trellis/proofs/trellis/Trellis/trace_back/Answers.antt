@@ -14,9 +14,9 @@ loop-t-preserved c =
     let t = c.loop-t.t - 1 in
     let s = c.loop-t.state in
     let e : suc t ≡ c.loop-t.t = omega arith in
-    let bit : c.is-marked-bit.result ≡ marks t s = c.is-marked-bit.ensures in
-    let from : c.from.result ≡ digit (marks t s) = c.from.ensures ∙ byte_digit c.is-marked-bit.result ∙ ap digit bit in
-    let byte : c.put-byte.new.bytes ≡ set c.loop-t.block t (digit (marks t s)) = c.put-byte.ensures ∙ ap (set c.loop-t.block t) from in
+    let bit : c.is_marked-bit.result ≡ marks t s = c.is_marked-bit.ensures in
+    let from : c.from.result ≡ digit (marks t s) = c.from.ensures ∙ byte_digit c.is_marked-bit.result ∙ ap digit bit in
+    let byte : c.put_byte.new.bytes ≡ set c.loop-t.block t (digit (marks t s)) = c.put_byte.ensures ∙ ap (set c.loop-t.block t) from in
     let state : c.before-state.result ≡ before m (marks t s) s = c.before-state.ensures ∙ ap (λ b. before m b s) bit in
     ap (overwritten t (back m marks t c.before-state.result)) byte
     ∙ ap (λ x. overwritten t (back m marks t x) (set c.loop-t.block t (digit (marks t s)))) state
