@@ -9,7 +9,6 @@ use Rattle.code.specs.Sending.{interleaved, source}
 use Rattle.scrambler.specs.Meaning.{Meaning}
 use Rattle.score.specs.Kinds.{total_scale, worst_scale, count_scale}
 use Rattle.score.specs.declared.tally.Tally.TheVariants.{Counted}
-use Rattle.sender.specs.Scrambling.{scrambled}
 use Rattle.sender.specs.Transmission.{symbol, transmission}
 
 -- nine bits in three runs of the send list 0 1 2 5, with increment 5: twelve bits are sent

@@ -1,5 +1,6 @@
 // Results that are known beforehand, shown of the definitions that the contracts cite.
 #![tactic(auto)]
+
 ghost use Rattle.known.specs.Results.{KnownResults};
 
 // The known results hold, all in one statement.

@@ -1,5 +1,6 @@
 // Prints the whole table of rows, so that it can be compared, number by number, with a second transcription of it.
 #![tactic(auto)]
+
 mod refusals;
 
 use rows_text::{print_bands, print_lists};

@@ -1,5 +1,6 @@
 // The standard's table as lines of text, for the programs that print it.
 #![tactic(auto)]
+
 mod bands;
 mod lists;
 

@@ -1,5 +1,6 @@
 // The search for the block that fits the values best, through a trellis that bites its tail.
 #![tactic(auto)]
+
 mod looking;
 mod pass;
 mod step;

@@ -1,5 +1,6 @@
 // The worked examples that the standard prints, computed by the chain: compared with the stored output.
 #![tactic(auto)]
+
 use code::{location, symbol_for};
 use plan::Plan;
 use rows::Row;

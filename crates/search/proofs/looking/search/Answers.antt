@@ -13,7 +13,7 @@ use Rattle.search.proofs.looking.search.Goals as goal
 pub pick-requires : goal.pick-requires
 pick-requires g c =
     let o = c.of.ensures in
-    let r = room (plan_scheme c.args.plan.now) c.of.result.memory c.of.result.size _ o.memory o.size (sym c.if-not-has-room.ensures) in
+    let r = room (plan_scheme c.args.plan.now) c.of.result.memory c.of.result.size _ o.memory o.size (sym c.if-not-has_room.ensures) in
     record { fits = (o.memory, o.size); old = r.old; new = r.new; marks = r.marks }
 
 pub returns : goal.returns
@@ -24,7 +24,7 @@ returns g c =
     let values = value_at c.args.values.now in
     let st = steps k s values in
     let o = c.of.ensures in
-    let long = sym c.if-not-has-room.ensures in
+    let long = sym c.if-not-has_room.ensures in
     let r = room s c.of.result.memory c.of.result.size _ o.memory o.size long in
     record {
       answer = sym (cond-true _ _ _ long);

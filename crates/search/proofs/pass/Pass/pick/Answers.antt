@@ -14,6 +14,6 @@ returns g c =
     let lead = c.winner-start.result.0 in
     let marks = λ (t i : ℕ) (a : t < s.size) (b : i < 2 ^ s.memory). c.sweep.ensures.marks t i a b ∙ ap (λ h. mark st s.memory (prefix s.memory h lead) t i) c.memory.ensures in
     record {
-      block = shown_is k _ _ _ s.memory s.size lead _ _ c.requires.fits.0 c.requires.fits.1 w.below w.number marks c.trace-back.ensures.after;
+      block = shown_is k _ _ _ s.memory s.size lead _ _ c.requires.fits.0 c.requires.fits.1 w.below w.number marks c.trace_back.ensures.after;
       score = w.score ∙ ap (final st s.memory s.size) w.number;
     }

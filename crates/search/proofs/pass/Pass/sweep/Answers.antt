@@ -18,10 +18,10 @@ loop-t-preserved g c =
     let s = c.args.self.now in
     let t = c.loop-t.t in
     let inside : t < (plan_scheme s.plan.now).block = omega (arith, c.requires.fits.1, c.size-t-end.ensures) in
-    let x = ap (λ col. col.scores.now) c.swap.ensures.x-after in
-    let y = ap (λ col. col.scores.now) c.swap.ensures.y-after in
+    let x = ap (λ col. col.scores.now) c.swap.ensures.x_after in
+    let y = ap (λ col. col.scores.now) c.swap.ensures.y_after in
     let values = c.gather.ensures ∙ cond-true _ _ _ (lt-ltb t (plan_scheme s.plan.now).block inside) in
-    let forced = c.forced-bit.ensures ∙ ap (λ b. prefix b c.args.held c.args.number t) c.memory.ensures in
+    let forced = c.forced_bit.ensures ∙ ap (λ b. prefix b c.args.held c.args.number t) c.memory.ensures in
     let r = c.run.ensures in (
       passed_more _ _ _ _ _ t c.loop-t.old.scores.now _ _ c.loop-t.marks _ _ _ x values forced r.scores r.marks r.others c.loop-t.invariant.0,
       omega (arith, ap length x, r.len, c.loop-t.invariant.2),

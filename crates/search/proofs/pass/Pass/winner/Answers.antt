@@ -4,20 +4,20 @@ use Rattle.std.proofs.lemmas.Nat.{pow_pos}
 use Rattle.search.specs.Stepping.{steps_of}
 use Rattle.search.proofs.Choosing.{Tried, tried_first, tried_keeps, tried_takes}
 use Rattle.search.proofs.pass.Pass.winner.Goals as goal
-use Rattle.search.proofs.pass.Pass.winner.Goals.{then-not-no-worse, else-not-no-worse}
+use Rattle.search.proofs.pass.Pass.winner.Goals.{then-not-no_worse, else-not-no_worse}
 
 pub loop-number-init : goal.loop-number-init
-loop-number-init g c = let f = c.final-score-best.ensures in (tried_first _ _ _ _ f.value, f.old, f.new)
+loop-number-init g c = let f = c.final_score-best.ensures in (tried_first _ _ _ _ f.value, f.old, f.new)
 
 pub loop-number-preserved : goal.loop-number-preserved
 loop-number-preserved g c =
-    let f = c.final-score-score.ensures in
+    let f = c.final_score-score.ensures in
     let st = steps_of (g.K.Kind.scale c.args.self.now.kind.now) c.args.self.now in
     let s = c.args.self.now.trellis in
-    let tried : Tried st s.memory s.size _ c.if-not-no-worse.lead c.if-not-no-worse.best =
-    elim c.if-not-no-worse.branch [
-      | then-not-no-worse w ↦ tried_takes _ _ _ _ _ _ _ _ _ _ c.loop-number.invariant.0 f.value c.no_worse.ensures w.if-not-no-worse.true w.lead-is w.best-is
-      | else-not-no-worse w ↦ tried_keeps _ _ _ _ _ _ _ _ _ _ c.loop-number.invariant.0 f.value c.no_worse.ensures w.if-not-no-worse.false w.lead-is w.best-is
+    let tried : Tried st s.memory s.size _ c.if-not-no_worse.lead c.if-not-no_worse.best =
+    elim c.if-not-no_worse.branch [
+      | then-not-no_worse w ↦ tried_takes _ _ _ _ _ _ _ _ _ _ c.loop-number.invariant.0 f.value c.no_worse.ensures w.if-not-no_worse.true w.lead-is w.best-is
+      | else-not-no_worse w ↦ tried_keeps _ _ _ _ _ _ _ _ _ _ c.loop-number.invariant.0 f.value c.no_worse.ensures w.if-not-no_worse.false w.lead-is w.best-is
     ] in
     (tried, f.old, f.new)
 

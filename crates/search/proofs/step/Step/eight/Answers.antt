@@ -6,11 +6,11 @@ use Rattle.search.proofs.step.Step.eight.Goals as goal
 pub loop-i-init : goal.loop-i-init
 loop-i-init g c = done_none _ _ _ _ _
 
-pub overflow-mul-byte : goal.overflow-mul-byte
-overflow-mul-byte g c = let h = done_fits _ _ _ _ _ c.loop-i.i c.loop-i.byte _ c.loop-i-test.true c.loop-i.invariant in omega arith
+pub overflow_mul-byte : goal.overflow_mul-byte
+overflow_mul-byte g c = let h = done_fits _ _ _ _ _ c.loop-i.i c.loop-i.byte _ c.loop-i-test.true c.loop-i.invariant in omega arith
 
-pub overflow-add-byte : goal.overflow-add-byte
-overflow-add-byte g c =
+pub overflow_add-byte : goal.overflow_add-byte
+overflow_add-byte g c =
     let h = done_fits _ _ _ _ _ c.loop-i.i c.loop-i.byte _ c.loop-i-test.true c.loop-i.invariant in
     let e = c.from.ensures ∙ byte_digit c.survivor-mark.result.0 in
     omega (arith, digit_below c.survivor-mark.result.0)

@@ -21,7 +21,7 @@ loop-group-preserved g c =
     let room = place_below s.memory s.size s.row c.args.t group _ rows c.requires.time below c.requires.room in
     let e = c.eight-byte.ensures in
     filled_more _ _ _ _ _ _ _ group c.eight-byte.result c.loop-group.new.scores.now c.loop-group.marks _ _
-    e.marks e.scores e.before e.len (c.put-eight.ensures.marks c.requires.time row (omega (arith, c.loop-group.auto.marks))) c.loop-group.invariant
+    e.marks e.scores e.before e.len (c.put_eight.ensures.marks c.requires.time row (omega (arith, c.loop-group.auto.marks))) c.loop-group.invariant
 
 pub returns : goal.returns
 returns g c =
