@@ -1,6 +1,6 @@
 -- The values at the locations, and what the calls set them to.
 -- Assumes nothing.
-use Rattle.std.specs.Prelude.{ℕ, zero, suc, ◌+◌, ◌*◌, Bool, cond, List, set, ℤ, pos, neg_ℤ, Option, slice_set}
+use Rattle.std.specs.Prelude.{ℕ, zero, suc, ◌+◌, ◌*◌, Bool, cond, List, ℤ, pos, neg_ℤ, Option, slice_set}
 use Rattle.std.specs.Option.{unwrap_or}
 use Rattle.plan.specs.Scheme.{Scheme, sent_length}
 use Rattle.code.specs.Mapping.{number_of}

@@ -1,5 +1,6 @@
 // The receiver: values at locations, set by what is heard, noted and blanked.
 #![tactic(auto)]
+
 mod laws;
 mod questions;
 mod receiver;

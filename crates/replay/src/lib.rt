@@ -1,5 +1,6 @@
 // Any list of calls, and the promise of the look after it.
 #![tactic(auto)]
+
 mod call;
 mod carrying;
 mod lending;

@@ -18,8 +18,8 @@ room c =
     let last : s.bits - 1 < s.bits = omega (arith, known.bits_low) in
     omega (arith, known.bits_low, fetch_below s known c.args.place (s.bits - 1) (ltb-true c.args.place (symbols s) c.requires) last)
 
-pub overflow-mul-result : goal.overflow-mul-result
-overflow-mul-result c = omega (arith, same c, room c, (facts (plan_scheme c.args.plan.now) c.args.plan.now.accepted).sent_high)
+pub overflow_mul-result : goal.overflow_mul-result
+overflow_mul-result c = omega (arith, same c, room c, (facts (plan_scheme c.args.plan.now) c.args.plan.now.accepted).sent_high)
 
 pub returns : goal.returns
 returns c = record { value = same c; room = omega (arith, same c, room c) }

@@ -7,6 +7,6 @@ use Rattle.receiver.proofs.values.set_bits.Goals as goal
 pub loop-i-preserved : goal.loop-i-preserved
 loop-i-preserved c =
     let a = c.args in
-    let value = to_z-of_z w16 c.value_for.result (record { sfits = c.value_for.type-inv }) ∙ c.value_for.ensures ∙ ap (signed a.weight) c.bit-at.ensures in
+    let value = to_z-of_z w16 c.value_for.result (record { sfits = c.value_for.type_inv }) ∙ c.value_for.ensures ∙ ap (signed a.weight) c.bit_at.ensures in
     (λ x. set (c.loop-i.invariant x) (a.first + c.loop-i.i) (value x))
     ∙ ap (with_values a.memory.now a.first (λ i. signed a.weight (bit_of a.bits a.number i))) (sym (add-one c.loop-i.i))

@@ -13,8 +13,8 @@ returns-in-Look g c =
     let v = view_of g.S.Scrambler.meaning a.receiver.now in
     let whole = given a.memory.now a.block.now a.scores.now a.marks.now in
     record {
-      answer = c.answer-of.ensures ∙ c.look-lent.ensures.answer ∙ sym (ap (answer v whole) c.in-Look.is);
+      answer = c.answer_of.ensures ∙ c.look_lent.ensures.answer ∙ sym (ap (answer v whole) c.in-Look.is);
       after = look_keeps v whole c.in-Look.lent a.call a.memory.now c.in-Look.is;
-      rest = shown_rest (g.K.Kind.scale a.kind.now) (plan_scheme a.receiver.now.plan) c.look-lent.result _ a.block.now _ c.look-lent.ensures.block;
+      rest = shown_rest (g.K.Kind.scale a.kind.now) (plan_scheme a.receiver.now.plan) c.look_lent.result _ a.block.now _ c.look_lent.ensures.block;
       kept = refl;
     }

@@ -29,14 +29,14 @@ loop-call-preserved g c =
     let pushed : is_ok c.push.result ≡ true = c.push.ensures.succeeds room in
     let call = get_or a.calls.now turn.call-index (Hear 0 0 0 0) in
     let said = vec_items turn.answers in
-    let r = c.carry-out-answer.result in
-    let answered = c.carry-out-answer.ensures.answer in
-    let changes = c.carry-out-answer.ensures.after in (
-      c.carry-out-answer.ensures.kept ∙ was.0,
-      one_more v whole a.calls.now a.memory.now a.block.now turn.call-index (Hear 0 0 0 0) turn.memory c.carry-out-answer.new.memory turn.block c.carry-out-answer.new.block said (vec_items c.push.new.self) r was.1 lt
+    let r = c.carry_out-answer.result in
+    let answered = c.carry_out-answer.ensures.answer in
+    let changes = c.carry_out-answer.ensures.after in (
+      c.carry_out-answer.ensures.kept ∙ was.0,
+      one_more v whole a.calls.now a.memory.now a.block.now turn.call-index (Hear 0 0 0 0) turn.memory c.carry_out-answer.new.memory turn.block c.carry_out-answer.new.block said (vec_items c.push.new.self) r was.1 lt
           (answered ∙ (λ x. answer (was.0 x) (whole_is x) call))
           (changes ∙ (λ x. after (was.0 x) (whole_is x) call turn.memory))
-          (subst (λ n. drop n c.carry-out-answer.new.block ≡ drop n turn.block) (ap (λ w. w.scheme.block) was.0) c.carry-out-answer.ensures.rest)
+          (subst (λ n. drop n c.carry_out-answer.new.block ≡ drop n turn.block) (ap (λ w. w.scheme.block) was.0) c.carry_out-answer.ensures.rest)
           (c.push.ensures.items ∙ cond-true _ _ _ pushed),
       c.push.ensures.len ∙ cond-true _ _ _ pushed ∙ ap (λ n. n + 1) was.2,
       (let more = c.push.ensures.capacity in omega (arith, more, was.3)),

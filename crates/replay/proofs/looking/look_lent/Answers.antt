@@ -24,18 +24,18 @@ returns g c =
     let lent_values : count ≡ min a.lent.memory (length values) = sub-zero c.min-values.result ∙ c.min-values.ensures in
     let lent_block : n ≡ min a.lent.block (length block) = sub-zero c.min-size.result ∙ c.min-size.ensures in
     let lent_marks : c.min-bytes.result - 0 ≡ min a.lent.marks (length a.marks.now) = sub-zero c.min-bytes.result ∙ c.min-bytes.ensures in
-    let first = c.split-at-mut-first.result.0.now in
-    let second = c.split-at-mut-first.result.1.now in
+    let first = c.split_at_mut-first.result.0.now in
+    let second = c.split_at_mut-first.result.1.now in
     let scores = length a.scores.now in
     let old_part : c.min-states.result - 0 ≡ min a.lent.old (length first) = sub-zero c.min-states.result ∙ c.min-states.ensures in
     let new-part : c.min-ends.result - 0 ≡ min a.lent.new (length second) = sub-zero c.min-ends.result ∙ c.min-ends.ensures in
-    let rest : length second ≡ scores - scores / 2 = omega (arith, c.split-at-mut-first.ensures.back_len) in
+    let rest : length second ≡ scores - scores / 2 = omega (arith, c.split_at_mut-first.ensures.back_len) in
     let answered : outcome chain_number c.look.result ≡ search_answer s l =
     c.look.ensures.answer
     ∙ (λ x. search_answer s (record {
       values = part_long count a.lent.memory values lent_values x;
       block = part_long n a.lent.block block lent_block x;
-      old = (part_long (c.min-states.result - 0) a.lent.old first old_part ∙ ap (min a.lent.old) c.split-at-mut-first.ensures.front-len) x;
+      old = (part_long (c.min-states.result - 0) a.lent.old first old_part ∙ ap (min a.lent.old) c.split_at_mut-first.ensures.front_len) x;
       new = (part_long (c.min-ends.result - 0) a.lent.new second new-part ∙ ap (min a.lent.new) rest) x;
       marks = part_long (c.min-bytes.result - 0) a.lent.marks a.marks.now lent_marks x;
     })) in

@@ -28,8 +28,8 @@ returns g c =
     let memory = a.memory.now in
     let block = a.block.now in
     let whole = given memory block a.scores.now a.marks.now in
-    let receiver = c.in-ok-receiver.receiver in
-    let was : c.new.result ≡ Ok receiver = c.in-ok-receiver.was in
+    let receiver = c.in_ok-receiver.receiver in
+    let was : c.new.result ≡ Ok receiver = c.in_ok-receiver.was in
     let yes_said : making_answer v (length memory) ≡ 0 = sym c.new.ensures.answer ∙ ap (outcome chain_number) was in
     let making = making_yes v (length memory) yes_said in
     let view_made : view_of meaning receiver ≡ v = made_of c.new.result receiver (λ x. view_of meaning x ≡ v) was c.new.ensures.made in
@@ -44,22 +44,22 @@ returns g c =
     (c.run.auto.memory ∙ c.new.auto.memory) c.run.auto.block c.run.auto.scores c.run.auto.marks in
     let past_run : drop s.block c.run.new.block ≡ drop s.block block =
     subst (λ n. drop n c.run.new.block ≡ drop n block) (ap (λ w. w.scheme.block) view_made) c.run.ensures.rest in
-    let looked : outcome chain_number c.look-lent-shown.result ≡ search_answer s whole =
-    c.look-lent-shown.ensures.answer ∙ (λ x. search_answer (view_run x).scheme (lent x)) in
-    let block_shown : c.look-lent-shown.new.block ≡ cond (is_ok c.look-lent-shown.result) (shown k s (value_at (ledger v whole calls)) c.run.new.block) c.run.new.block =
-    c.look-lent-shown.ensures.block
-    ∙ (λ x. cond (is_ok c.look-lent-shown.result) (shown k (view_run x).scheme (value_at (take (sent_length (view_run x).scheme) c.run.new.memory)) c.run.new.block) c.run.new.block)
-    ∙ ap (λ l. cond (is_ok c.look-lent-shown.result) (shown k s (value_at l) c.run.new.block) c.run.new.block) front in
+    let looked : outcome chain_number c.look_lent-shown.result ≡ search_answer s whole =
+    c.look_lent-shown.ensures.answer ∙ (λ x. search_answer (view_run x).scheme (lent x)) in
+    let block_shown : c.look_lent-shown.new.block ≡ cond (is_ok c.look_lent-shown.result) (shown k s (value_at (ledger v whole calls)) c.run.new.block) c.run.new.block =
+    c.look_lent-shown.ensures.block
+    ∙ (λ x. cond (is_ok c.look_lent-shown.result) (shown k (view_run x).scheme (value_at (take (sent_length (view_run x).scheme) c.run.new.memory)) c.run.new.block) c.run.new.block)
+    ∙ ap (λ l. cond (is_ok c.look_lent-shown.result) (shown k s (value_at l) c.run.new.block) c.run.new.block) front in
     record {
       answer = λ _. sym yes_said;
       answers = c.run.ensures.answers ∙ (λ x. answers (view_made x) (whole_made x) calls);
       looked = looked;
       promise = promise_made k (g.met.K.Kind.lawful a.kind.now) v a.plan.accepted (g.met.S.Scrambler.bounded a.scrambler) making.0 whole calls
-          c.look-lent-shown.result _ c.run.new.memory _ (ap (λ w. w.scheme) view_run) front c.look-lent-shown.ensures.found;
-      written = shown_over k s c.look-lent-shown.result whole (value_at (ledger v whole calls)) block c.run.new.block c.look-lent-shown.new.block looked refl c.run.auto.block past_run block_shown;
+          c.look_lent-shown.result _ c.run.new.memory _ (ap (λ w. w.scheme) view_run) front c.look_lent-shown.ensures.found;
+      written = shown_over k s c.look_lent-shown.result whole (value_at (ledger v whole calls)) block c.run.new.block c.look_lent-shown.new.block looked refl c.run.auto.block past_run block_shown;
       values = λ _. front;
       rest = ledger_rest v known whole calls memory c.run.new.memory all;
-      past = shown_rest k s c.look-lent-shown.result _ c.run.new.block c.look-lent-shown.new.block block_shown ∙ past_run;
+      past = shown_rest k s c.look_lent-shown.result _ c.run.new.block c.look_lent-shown.new.block block_shown ∙ past_run;
       memory = λ e. absurd (true≢false e);
       block = λ e. absurd (true≢false e);
       scores = λ e. absurd (true≢false e);

@@ -1,4 +1,4 @@
-use Rattle.std.proofs.Common.{◌≡◌, ◌-◌, ◌*◌, ◌/◌, ◌^◌, min, cond, ◌&&◌, leb, length, take, is_ok, IfOk, sym, ap, ◌∙◌, subst}
+use Rattle.std.proofs.Common.{◌≡◌, ◌-◌, ◌*◌, ◌/◌, ◌^◌, min, cond, ◌&&◌, leb, length, take, is_ok, IfOk, ap, ◌∙◌, subst}
 use native.Mathlib.Nat.{sub-zero}
 use Rattle.code.specs.Numbers.{bits_of}
 use Rattle.plan.specs.Plans.{plan_scheme}

@@ -1,4 +1,4 @@
-use Rattle.std.proofs.Common.{◌≡◌, ◌%◌, ◌<◌, ◌≤◌, true, eqb, leb, length, get_or, is_some, Some, None, sym, ap, ◌∙◌, mod-lt, arith}
+use Rattle.std.proofs.Common.{◌≡◌, ◌%◌, ◌<◌, eqb, leb, get_or, is_some, Some, None, sym, ap, ◌∙◌, mod-lt, arith}
 use Rattle.std.proofs.lemmas.Bool.{and_parts, leb-true, lt-ltb, cond-true}
 use Rattle.plan.specs.Plans.{plan_scheme}
 use Rattle.plan.proofs.Facts.{facts}
@@ -21,8 +21,8 @@ valued g c =
     c.value.ensures.value ∙ ap (λ p. value_at m (c.args.place % p.frame_length)) c.parts.ensures
     ∙ cond-true _ (Some (get_or m.values place 0)) None (lt-ltb place (reach m) inside)
 
-pub nonzero-rem-place : goal.nonzero-rem-place
-nonzero-rem-place g c =
+pub nonzero_rem-place : goal.nonzero_rem-place
+nonzero_rem-place g c =
     let s = plan_scheme c.args.plan.now in
     omega (arith, (facts s c.args.plan.now.accepted).frame_low, ap (λ p. p.frame_length) c.parts.ensures)
 
@@ -35,6 +35,6 @@ returns g c =
     let v = valued g (goal.at.returns g c).After-value in
     let same : c.unwrap-value.result ≡ get_or (g.S.Scrambler.meaning c.args.scrambler.now).values (c.args.place % s.frame) 0 = let w = sym c.unwrap-value.ensures ∙ v in cc in
     record {
-      value = c.number-for.ensures.value ∙ ap (number_of s.bits) (c.unscramble.ensures ∙ (λ i. unscrambled (c.parts-2.ensures i).symbol_bits c.args.index (same i)));
+      value = c.number_for.ensures.value ∙ ap (number_of s.bits) (c.unscramble.ensures ∙ (λ i. unscrambled (c.parts-2.ensures i).symbol_bits c.args.index (same i)));
       kept = c.value.ensures.kept;
     }
