@@ -1,5 +1,6 @@
 // The bench: reads lines from standard input, and answers each.
 #![tactic(auto)]
+
 use lines::{Line, answer_text};
 use session::Session;
 use std::io;

@@ -1,10 +1,9 @@
 -- What can be sent of symbols of at most three bits is one of eight phases.
 -- Assumes nothing.
-use Rattle.std.proofs.Common.{◌≡◌, ℕ, ◌+◌, ◌%◌, ◌<◌, ◌≤◌, true, cond, leb, lit<, le-leb}
-use lib.Bits.{bit_xor}
+use Rattle.std.proofs.Common.{ℕ, ◌+◌, ◌<◌, ◌≤◌, lit<, le-leb}
 use Rattle.std.proofs.lemmas.Nat.{mod_below}
 use Rattle.sender.specs.Scrambling.{scrambled}
-use Rattle.channel.specs.Hearing.{candidate, Sendable}
+use Rattle.channel.specs.Hearing.{Sendable}
 
 -- a sum modulo 8
 pub scrambled_below : (q y v : ℕ) → q ≤ 3 → scrambled q y v < 8

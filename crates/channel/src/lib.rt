@@ -1,5 +1,6 @@
 // A small simulator: what a chain's symbols may meet on the air, always the same for the same seed.
 #![tactic(auto)]
+
 mod air;
 mod decision;
 mod generator;

@@ -1,5 +1,6 @@
 // Takes blocks of one of the standard's waveforms from random bits to counted dots on an error curve.
 #![tactic(auto)]
+
 mod calls;
 mod checksum;
 mod choice;
@@ -15,14 +16,15 @@ mod trouble;
 use crate::request::{Request, request_of};
 use crate::show::{show_curve, show_rows, show_sent, show_time};
 use crate::trouble::Trouble;
-use std::env;
+use std::process::ExitCode;
+use std::{env, io};
 
-fn main(rt: HostRuntime) -> Result<(), Trouble> {
-    let done = run(&rt);
-    if let Err(trouble) = &done {
+fn main(rt: HostRuntime) -> io::Result<ExitCode> {
+    if let Err(trouble) = run(&rt) {
         eprintln!(rt; "curve: {trouble}")?;
+        return Ok(ExitCode::FAILURE);
     }
-    done
+    Ok(ExitCode::SUCCESS)
 }
 
 // Does what the arguments ask for.

@@ -1,5 +1,6 @@
 // A list of calls on a small plan, run.
 #![tactic(auto)]
+
 use plan::{ChainFault, Parts, Plan};
 use replay::{Call, Lent, Replayed, replay};
 use score::Total;

@@ -1,5 +1,6 @@
 // Compares the search with a plain engine that tries every block, on a plan of nine bits.
 #![tactic(auto)]
+
 mod engine;
 mod values;
 

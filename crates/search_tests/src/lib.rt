@@ -1,5 +1,6 @@
 // The search on small plans, run.
 #![tactic(auto)]
+
 use plan::{ChainFault, Parts, Plan};
 use score::Total;
 use search::search;

@@ -4,10 +4,10 @@ use Rattle.channel.proofs.decision.decide.Goals as goal
 
 pub returns : goal.returns
 returns c =
-    let sendable = c.nearest-of-all-best.ensures in
+    let sendable = c.nearest_of_all-best.ensures in
     record {
       sendable = sendable;
       phase = sendable_below (plan_scheme c.args.plan.now).bits c.args.value _ c.requires sendable;
-      weight_low = c.weight-of.ensures.low;
-      weight_high = c.weight-of.ensures.high;
+      weight_low = c.weight_of.ensures.low;
+      weight_high = c.weight_of.ensures.high;
     }

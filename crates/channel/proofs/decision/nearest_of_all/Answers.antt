@@ -1,4 +1,4 @@
-use Rattle.std.proofs.Common.{◌≡◌, ℕ, ◌<◌, ◌∙◌, subst, ⊎_elim}
+use Rattle.std.proofs.Common.{ℕ, ◌<◌, ◌∙◌, subst, ⊎_elim}
 use Rattle.channel.proofs.decision.nearest_of_all.Goals as goal
 
 pub loop-number-preserved : goal.loop-number-preserved
@@ -8,5 +8,5 @@ loop-number-preserved c =
     let Below : ℕ → Type 0 = λ n. number < n in
     ⊎_elim
     (λ e. (before.0, before.1, e ∙ before.2))
-    (λ e. (number, subst Below c.numbers-of-number-end.ensures c.loop-number-test.true, e ∙ c.index-of-index.ensures))
+    (λ e. (number, subst Below c.numbers_of-number-end.ensures c.loop-number-test.true, e ∙ c.index_of-index.ensures))
     c.nearer-best.ensures

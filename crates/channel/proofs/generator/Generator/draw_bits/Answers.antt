@@ -1,4 +1,4 @@
-use Rattle.std.proofs.Common.{◌≡◌, ◌+◌, ◌/◌, ◌^◌, ◌≤◌, length, sym, refl, ap, ◌∙◌, add-one, arith}
+use Rattle.std.proofs.Common.{◌≡◌, ◌/◌, ◌^◌, length, sym, refl, ap, ◌∙◌, add-one, arith}
 use Rattle.std.proofs.lemmas.List.FromFn.{fill_by_all}
 use Rattle.code.proofs.Filled.{filled_none, filled_more}
 use Rattle.channel.specs.Drawing.{stepped, state_after, drawn, drawn_bit}
@@ -12,8 +12,8 @@ unfolding drawn_bit
 loop-i-preserved c =
     let seed = c.args.self.now.state in
     let i = c.loop-i.i in
-    let bit : c.draw-bit.result ≡ drawn_bit seed i = c.draw-bit.ensures.value ∙ ap (λ s. drawn s / 2 ^ 63) c.loop-i.invariant.0 in (
-      c.draw-bit.ensures.after ∙ ap stepped c.loop-i.invariant.0 ∙ sym (ap (λ n. state_after n seed) (add-one i)),
+    let bit : c.draw_bit.result ≡ drawn_bit seed i = c.draw_bit.ensures.value ∙ ap (λ s. drawn s / 2 ^ 63) c.loop-i.invariant.0 in (
+      c.draw_bit.ensures.after ∙ ap stepped c.loop-i.invariant.0 ∙ sym (ap (λ n. state_after n seed) (add-one i)),
       filled_more (drawn_bit seed) i c.args.out.now c.loop-i.out _ c.loop-i.invariant.1 bit,
     )
 

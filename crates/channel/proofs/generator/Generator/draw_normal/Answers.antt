@@ -8,10 +8,10 @@ loop-i-init c = refl
 pub loop-i-preserved : goal.loop-i-preserved
 loop-i-preserved c =
     let seed = c.args.self.now.state in
-    c.draw-fraction-sum.ensures.after ∙ ap stepped c.loop-i.invariant ∙ sym (ap (λ n. state_after n seed) (add-one c.loop-i.-i))
+    c.draw_fraction-sum.ensures.after ∙ ap stepped c.loop-i.invariant ∙ sym (ap (λ n. state_after n seed) (add-one c.loop-i._i))
 
 pub returns : goal.returns
 returns c =
     let seed = c.args.self.now.state in
-    let all : c.loop-i.-i ≡ 12 = omega (arith, c.loop-i-test.false, c.loop-i.auto) in
+    let all : c.loop-i._i ≡ 12 = omega (arith, c.loop-i-test.false, c.loop-i.auto) in
     record { after = c.loop-i.invariant ∙ ap (λ n. state_after n seed) all }

@@ -4,4 +4,4 @@ use Rattle.channel.proofs.generator.Generator.draw_normal.Given as goal
 
 -- i fractions are drawn
 abbrev pub invariant-loop-i : goal.invariant-loop-i
-invariant-loop-i l = l.self.state ≡ state_after l.-i l.initial.self.state
+invariant-loop-i l = l.self.state ≡ state_after l._i l.initial.self.state
