@@ -5,7 +5,7 @@ use native.Mathlib.Nat.{mod-mod, pow-succ'}
 use lib.Bits.{bit_and, and_zero_l, and_zero_r}
 use lib.Count.{ones, ones_step}
 use lib.Pow.{mod-mod-pow}
-use Rattle.std.specs.List.{AllByRecursion as All}
+use Rattle.std.specs.List.{AllByRecursion}
 use Rattle.std.proofs.lemmas.Nat.{and_mod, and_shr, field_of, shr-shr}
 use Rattle.std.proofs.lemmas.Bool.{and_parts, ltb-true, cases_lt, cases_eq}
 use Rattle.plan.specs.Questions.{all_below}
@@ -37,7 +37,7 @@ bit_num f (suc n) t i h =
     (cases_eq i n)
 
 -- two windows that agree at the taps have the same sum
-pub sum_same : (w v : ℕ → Bool) (taps : List ℕ) → All (λ i. w i ≡ v i) taps → sum_at w taps ≡ sum_at v taps
+pub sum_same : (w v : ℕ → Bool) (taps : List ℕ) → AllByRecursion (λ i. w i ≡ v i) taps → sum_at w taps ≡ sum_at v taps
 sum_same w v [] h = refl
 sum_same w v (i ∷ is) h = ap (λ b. xor b (sum_at w is)) h.0 ∙ ap (xor (v i)) (sum_same w v is h.1)
 
@@ -134,7 +134,7 @@ same_true false false e = refl
 agrees : ℕ → List ℕ → ℕ → ℕ → Bool
 agrees n taps mask w = same (masked n w mask) (sum_at (bit_of n w) taps)
 
-low_taps : (n w : ℕ) (taps : List ℕ) → all_below n taps ≡ true → All (λ i. bit_of n (w % 2 ^ n) i ≡ bit_of n w i) taps
+low_taps : (n w : ℕ) (taps : List ℕ) → all_below n taps ≡ true → AllByRecursion (λ i. bit_of n (w % 2 ^ n) i ≡ bit_of n w i) taps
 low_taps n w [] h = tt
 low_taps n w (i ∷ is) h = let p = and_parts (ltb i n) (all_below n is) h in (sym (bit_low n w i (ltb-true i n p.0)), low_taps n w is p.1)
 
@@ -171,7 +171,7 @@ module _ (k w : ℕ) (a b : Bool) where
   pair_9 e p q = (λ i. ((p ∙ first_9 w) i, (q ∙ second_9 w) i)) ∙ ap (λ n. pair n (bit_of n w)) (sym e)
 
 -- the pair of a window's number is the pair of its bits
-same_taps : (f : ℕ → Bool) (n t : ℕ) (taps : List ℕ) → all_below n taps ≡ true → All (λ i. bit_of n (num f n t) i ≡ f (t + i)) taps
+same_taps : (f : ℕ → Bool) (n t : ℕ) (taps : List ℕ) → all_below n taps ≡ true → AllByRecursion (λ i. bit_of n (num f n t) i ≡ f (t + i)) taps
 same_taps f n t [] h = tt
 same_taps f n t (i ∷ is) h = let p = and_parts (ltb i n) (all_below n is) h in (bit_num f n t i (ltb-true i n p.0), same_taps f n t is p.1)
 

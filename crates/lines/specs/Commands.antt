@@ -3,7 +3,7 @@
 use Rattle.std.specs.Prelude.{◌≡◌, ℕ, ◌^◌, ◌<◌, ◌≤◌, List, [], ◌∷◌, ◌++◌, map, length, vec_items}
 use Rattle.std.specs.Int.{w16}
 use Rattle.std.proofs.Common.{of_z}
-use Rattle.std.specs.List.{flat_map, AllByRecursion as All}
+use Rattle.std.specs.List.{flat_map, AllByRecursion}
 use Rattle.plan.specs.Parts.{scheme}
 use Rattle.plan.specs.Scheme.{Scheme}
 use Rattle.lines.specs.Hex.{hex, big_endian}
@@ -48,7 +48,7 @@ packed fs = flat_map (λ f. big_endian f.width f.number) fs
 
 -- every number is small enough for its bytes
 abbrev pub Fitting : List Field → Type 0
-Fitting fs = All (λ f. f.number < 256 ^ f.width) fs
+Fitting fs = AllByRecursion (λ f. f.number < 256 ^ f.width) fs
 
 abbrev pub text : Command → List ℕ
 text c = kind c ∷ hex (packed (fields c))

@@ -1,7 +1,7 @@
 -- Bytes as upper-case hexadecimal text, and numbers as bytes.
 -- Assumes nothing.
 use Rattle.std.specs.Prelude.{ℕ, zero, suc, ◌+◌, ◌/◌, ◌%◌, ◌<◌, cond, List, [], ◌∷◌, ◌++◌, nat_lt}
-use Rattle.std.specs.List.{AllByRecursion as All}
+use Rattle.std.specs.List.{AllByRecursion}
 
 -- the digit of a number below 16: 0 to 9, then A to F
 abbrev pub hex_digit : ℕ → ℕ
@@ -14,7 +14,7 @@ hex (b ∷ bs) = hex_digit (b / 16) ∷ hex_digit (b % 16) ∷ hex bs
 
 -- each of the numbers is a byte
 abbrev pub Bytes : List ℕ → Type 0
-Bytes bs = All (λ b. b < 256) bs
+Bytes bs = AllByRecursion (λ b. b < 256) bs
 
 -- a number in this many bytes, the highest first
 abbrev pub big_endian : ℕ → ℕ → List ℕ

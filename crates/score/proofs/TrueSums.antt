@@ -1,7 +1,7 @@
 -- Total is the true sum as long as the greatest number is not reached.
 -- Assumes nothing.
 use Rattle.std.proofs.Common.{◌≡◌, ℕ, zero, suc, ◌+◌, ◌-◌, ◌*◌, ◌^◌, ◌≤◌, Bool, cond, leb, List, [], ◌∷◌, length, ℤ, nat_abs, sym, refl, ◌∙◌, ⊎_elim, arith}
-use Rattle.std.specs.List.{AllByRecursion as All}
+use Rattle.std.specs.List.{AllByRecursion}
 use Rattle.std.proofs.lemmas.Bool.{cond_both, cond-true, cond-false, cases_Bool, leb-true, le-leb}
 use Rattle.plan.specs.Scheme.{sent_length}
 use Rattle.plan.proofs.Facts.{facts}
@@ -15,7 +15,7 @@ use Rattle.score.specs.Sums.{extended_by, true_sum, sum_of, weighs, heard, sum_b
 weight_at_most : (v : ℤ) (bit : Bool) (m : ℕ) → nat_abs v ≤ m → weight v bit ≤ m
 weight_at_most v bit m h = cond_both (contradicted v bit) _ _ (λ x. x ≤ m) (λ _. h) (λ _. omega arith)
 
-sum_at_most : (ps : List (ℤ × Bool)) → All (λ p. nat_abs p.0 ≤ 32767) ps → true_sum ps ≤ 32767 * length ps
+sum_at_most : (ps : List (ℤ × Bool)) → AllByRecursion (λ p. nat_abs p.0 ≤ 32767) ps → true_sum ps ≤ 32767 * length ps
 sum_at_most [] h = omega arith
 sum_at_most (p ∷ ps) h = let w = weight_at_most p.0 p.1 32767 h.0 in let r = sum_at_most ps h.1 in omega arith
 
@@ -44,7 +44,7 @@ great p = cond (leb (nat_abs p.0) 32767) 0 1
 small_value : (p : ℤ × Bool) → great p ≡ 0 → nat_abs p.0 ≤ 32767
 small_value p e = ⊎_elim (λ t. leb-true _ 32767 t) (λ t. absurd (omega (arith, sym e ∙ cond-false _ 0 1 t))) (cases_Bool (leb (nat_abs p.0) 32767))
 
-none_great : (ps : List (ℤ × Bool)) → sum_of great ps ≡ 0 → All (λ p. nat_abs p.0 ≤ 32767) ps
+none_great : (ps : List (ℤ × Bool)) → sum_of great ps ≡ 0 → AllByRecursion (λ p. nat_abs p.0 ≤ 32767) ps
 none_great [] h = tt
 none_great (p ∷ ps) h = (small_value p (omega arith), none_great ps (omega arith))
 

@@ -1,7 +1,7 @@
 -- Which values a block's score takes, and what Total then is.
 -- Assumes nothing.
 use Rattle.std.specs.Prelude.{◌≡◌, ℕ, zero, suc, ◌+◌, ◌≤◌, Bool, List, [], ◌∷◌, length, ℤ, unsigned_abs}
-use Rattle.std.specs.List.{AllByRecursion as All}
+use Rattle.std.specs.List.{AllByRecursion}
 use Rattle.plan.specs.Scheme.{Scheme, sent_length}
 use Rattle.plan.specs.Questions.{plan_answer}
 use Rattle.code.specs.Coding.{mother}
@@ -32,7 +32,7 @@ true_sum ps = sum_of weighs ps
 -- from the start, up to 2,211,840 values within 32,767 of zero give the true sum
 abbrev pub TotalIsTrueSum : Type 0
 TotalIsTrueSum =
-    (ps : List (ℤ × Bool)) → length ps ≤ 2211840 → All (λ p. unsigned_abs p.0 ≤ 32767) ps
+    (ps : List (ℤ × Bool)) → length ps ≤ 2211840 → AllByRecursion (λ p. unsigned_abs p.0 ≤ 32767) ps
     → (extended_by total_scale ps total_scale.start ≡ true_sum ps) × (true_sum ps ≤ 72475361280)
 
 -- f 0 and so on to f (n - 1), added
