@@ -11,6 +11,6 @@ returns c =
     record {
       answer =
           c.look.ensures.answer
-          ∙ small_enough (plan_scheme receiver.plan) _ receiver.plan.accepted c.requires.small c.requires.values c.requires.block (omega (arith, c.split-at-mut-first.ensures.front-len)) (omega (arith, c.split-at-mut-first.ensures.back_len)) c.requires.marks;
+          ∙ small_enough (plan_scheme receiver.plan) _ receiver.plan.accepted c.requires.small c.requires.values c.requires.block (omega (arith, c.split_at_mut-first.ensures.front_len)) (omega (arith, c.split_at_mut-first.ensures.back_len)) c.requires.marks;
       shows = shows_from (view_of table_meaning receiver) c.args.memory.now c.args.block.now c.look.new.block c.requires.block c.look.result c.look.ensures.found c.look.ensures.block;
     }

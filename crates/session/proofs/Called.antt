@@ -1,10 +1,9 @@
 -- What a command leaves, by what the call behind it answered.
 -- Assumes nothing.
-use Rattle.std.proofs.Common.{◌≡◌, ℕ, Bool, true, false, cond, eqb, List, ℤ, is_ok, Some, None, Ok, Err, vec_items, Option, Result, sym, refl, ap, ◌∙◌}
+use Rattle.std.proofs.Common.{◌≡◌, ℕ, false, cond, eqb, List, ℤ, is_ok, Some, Ok, Err, vec_items, Option, Result, sym, ap, ◌∙◌}
 use Rattle.std.specs.Option.{option_map}
 use Rattle.std.proofs.lemmas.Bool.{eq-eqb, ne_eqb, cond-true, cond-false, false≢true}
 use Rattle.plan.specs.Faults.{chain_number, outcome}
-use Rattle.plan.specs.Plans.{plan_scheme}
 use Rattle.plan.specs.Scheme.{Scheme}
 use Rattle.plan.specs.declared.fault.ChainFault.{ChainFault}
 use Rattle.lines.specs.declared.command.Command.{Command}

@@ -1,4 +1,6 @@
 // What the bench holds between lines, and what it makes of each command.
+#![tactic(auto)]
+
 mod command_room;
 mod session;
 

@@ -1,9 +1,9 @@
 -- What a plan and a table answer, by what the calls behind them answered.
 -- Assumes nothing.
-use Rattle.std.proofs.Common.{◌≡◌, ℕ, Bool, true, false, cond, eqb, List, length, Some, vec_items, Vec, sym, refl, ap, ◌∙◌, ⊎_elim, arith}
+use Rattle.std.proofs.Common.{◌≡◌, ℕ, Bool, true, false, cond, eqb, length, Some, vec_items, Vec, sym, refl, ap, ◌∙◌, ⊎_elim, arith}
 use Rattle.std.specs.Option.{option_map}
 use Rattle.std.specs.declared.alloc.Global.{Global}
-use Rattle.std.proofs.lemmas.Bool.{cases_Bool, eqb-true, eqb-false, both_ways}
+use Rattle.std.proofs.lemmas.Bool.{cases_Bool, eqb-false}
 use Rattle.plan.specs.Faults.{chain_number}
 use Rattle.plan.specs.Plans.{plan_scheme}
 use Rattle.plan.specs.Questions.{plan_answer}
@@ -17,7 +17,7 @@ use Rattle.receiver.specs.Receivers.{view}
 use Rattle.scrambler.specs.Meaning.{Meaning}
 use Rattle.scrambler.specs.Questions.{table_fits, making_answer as table_made}
 use Rattle.sender.specs.Scrambling.{needed_width}
-use Rattle.session.specs.Held.{asked, by_table, table_answer, answer}
+use Rattle.session.specs.Held.{asked, table_answer, answer}
 use Rattle.session.specs.Sessions.{held}
 use Rattle.session.specs.declared.session.Session.{Session}
 use Rattle.session.proofs.Called.{fault_not_zero}

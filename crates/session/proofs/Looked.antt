@@ -1,6 +1,6 @@
 -- What a look of the session shows.
 -- Assumes nothing.
-use Rattle.std.proofs.Common.{◌≡◌, ℕ, zero, suc, ◌-◌, ◌*◌, ◌/◌, ◌^◌, ◌<◌, ◌≤◌, Bool, true, cond, ◌&&◌, leb, ◌⊎◌, List, length, get_or, take, set, ℤ, is_ok, IfOk, Ok, Err, Result, sym, refl, ap, ◌∙◌, ⊎_elim, arith, length-set}
+use Rattle.std.proofs.Common.{◌≡◌, ℕ, zero, suc, ◌*◌, ◌/◌, ◌^◌, ◌≤◌, Bool, true, cond, leb, List, length, get_or, take, ℤ, is_ok, IfOk, Ok, Err, Result, refl, ap, ◌∙◌, ⊎_elim, arith, length-set}
 use Rattle.std.proofs.lemmas.Bool.{and_parts, leb-true, le-leb}
 use Rattle.plan.specs.Questions.{plan_answer}
 use Rattle.plan.specs.Scheme.{Scheme, sent_length}
@@ -10,7 +10,7 @@ use Rattle.code.specs.Numbers.{bits_of, digit}
 use Rattle.lines.specs.Plans.{size_fits}
 use Rattle.score.specs.Blocks.{value_at}
 use Rattle.score.specs.Kinds.{total_scale}
-use Rattle.search.specs.Looking.{Found, Lengths, shown, long_enough, search_answer}
+use Rattle.search.specs.Looking.{Found, Lengths, shown, search_answer}
 use Rattle.search.specs.Searching.{memory}
 use Rattle.trellis.specs.Marks.{overwritten}
 use Rattle.trellis.proofs.Written.{overwritten_at}

@@ -1,4 +1,4 @@
-use Rattle.std.proofs.Common.{◌≡◌, ◌≤◌, true, length, vec_items, sym, refl, ap, ◌∙◌, subst, arith}
+use Rattle.std.proofs.Common.{◌≡◌, ◌≤◌, true, vec_items, sym, ap, ◌∙◌, subst, arith}
 use Rattle.std.specs.Option.{option_map}
 use Rattle.std.specs.Vec.{with_items}
 use Rattle.std.proofs.lemmas.List.{with_items_is}
@@ -24,23 +24,23 @@ look-requires c =
     let size = ap (λ p. p.block_length) c.parts.ensures in
     record {
       small = small;
-      values = omega (arith, c.as-slice.ensures.len, c.args.self.now.values);
-      block = omega (arith, c.as-mut-slice.ensures.len, c.truncate.ensures.len, c.args.room.whole, asked, size);
-      scores = omega (arith, c.as-mut-slice-2.ensures.len, c.args.self.now.columns);
-      marks = omega (arith, c.as-mut-slice-3.ensures.len, c.args.self.now.marks_of_all);
+      values = omega (arith, c.as_slice.ensures.len, c.args.self.now.values);
+      block = omega (arith, c.as_mut_slice.ensures.len, c.truncate.ensures.len, c.args.room.whole, asked, size);
+      scores = omega (arith, c.as_mut_slice-2.ensures.len, c.args.self.now.columns);
+      marks = omega (arith, c.as_mut_slice-3.ensures.len, c.args.self.now.marks_of_all);
     }
 
 pub returns : goal.returns
 returns c =
     let s = c.args.self.now in
     let number = answers_there (view_of table_meaning) s.receiver c.in-Some.receiver (λ v. 0) c.in-Some.is in
-    let e = c.in-ok-score.ensures in
+    let e = c.in_ok-score.ensures in
     let whole = with_items_is c.truncate.new.self c.look.new.block (omega arith) in
     record {
       answer = number;
       after = accepted_changes (held s) Look number;
       reply =
-          subst (λ o. ShowsBest (option_map (view_of table_meaning) o) (vec_items s.memory) (Shown c.in-ok-score.score (with_items c.truncate.new.self c.look.new.block))) (sym c.in-Some.is)
-          (subst (λ l. Shows (view_of table_meaning c.in-Some.receiver) (vec_items s.memory) c.in-ok-score.score l) (sym whole)
-          (subst (λ l. Shows (view_of table_meaning c.in-Some.receiver) l c.in-ok-score.score c.look.new.block) c.as-slice.ensures.value e.shows));
+          subst (λ o. ShowsBest (option_map (view_of table_meaning) o) (vec_items s.memory) (Shown c.in_ok-score.score (with_items c.truncate.new.self c.look.new.block))) (sym c.in-Some.is)
+          (subst (λ l. Shows (view_of table_meaning c.in-Some.receiver) (vec_items s.memory) c.in_ok-score.score l) (sym whole)
+          (subst (λ l. Shows (view_of table_meaning c.in-Some.receiver) l c.in_ok-score.score c.look.new.block) c.as_slice.ensures.value e.shows));
     }

@@ -14,25 +14,25 @@ use Rattle.session.proofs.Called.{holding, refused_keeps, accepted_changes}
 use Rattle.session.proofs.Tabled.{table_refused, table_made_then}
 use Rattle.session.proofs.session.Session.take_table.Goals as goal
 
-pub returns-in-err-table : goal.returns-in-err-table
-returns-in-err-table c =
+pub returns-in_err-table : goal.returns-in_err-table
+returns-in_err-table c =
     let s = c.args.self.now in
-    let f = c.in-err-table.field-0.0 in
-    let p = err_from_is_err_and c.from-residual.result c.from-residual.ensures.1 in
+    let f = c.in_err-table.field-0.0 in
+    let p = err_from_is_err_and c.from_residual.result c.from_residual.ensures.1 in
     let width = c.needed_width.ensures ∙ ap (λ q. needed_width q.symbol_bits) c.parts.ensures in
-    let number = table_refused s c.in-Some.plan c.in-Some.is c.args.values c.needed_width.result width f c.in-err-table.ensures.answer in
+    let number = table_refused s c.in-Some.plan c.in-Some.is c.args.values c.needed_width.result width f c.in_err-table.ensures.answer in
     rw (p.1, p.2) (record { answer = number; after = refused_keeps (held s) (TableLine c.args.values) f number; reply = tt })
 
-pub returns-in-err-receiver : goal.returns-in-err-receiver
-returns-in-err-receiver c =
+pub returns-in_err-receiver : goal.returns-in_err-receiver
+returns-in_err-receiver c =
     let s = c.args.self.now in
-    let f = c.in-err-receiver.field-0.0 in
-    let e = c.in-err-receiver.ensures in
-    let t = c.in-ok-table.ensures in
-    let p = err_from_is_err_and c.from-residual-in-err-receiver.result c.from-residual-in-err-receiver.ensures.1 in
+    let f = c.in_err-receiver.field-0.0 in
+    let e = c.in_err-receiver.ensures in
+    let t = c.in_ok-table.ensures in
+    let p = err_from_is_err_and c.from_residual-in_err-receiver.result c.from_residual-in_err-receiver.ensures.1 in
     let width = c.needed_width.ensures ∙ ap (λ q. needed_width q.symbol_bits) c.parts.ensures in
-    let lent = c.as-mut-slice.ensures.value in
-    let number = table_made_then s c.in-Some.plan c.in-Some.is c.args.values c.needed_width.result width c.copy.result (table_meaning c.in-ok-table.table) _ _ t.answer c.copy.ensures t.made (ap length lent) e.answer in
+    let lent = c.as_mut_slice.ensures.value in
+    let number = table_made_then s c.in-Some.plan c.in-Some.is c.args.values c.needed_width.result width c.copy.result (table_meaning c.in_ok-table.table) _ _ t.answer c.copy.ensures t.made (ap length lent) e.answer in
     let kept = with_items_is s.memory c.new-2.new.memory (omega arith) ∙ e.after ∙ lent in
     rw (p.1, p.2)
     (record { answer = number; after = ap (holding (held s).plan (held s).receiver) kept ∙ refused_keeps (held s) (TableLine c.args.values) f number; reply = tt })
@@ -40,14 +40,14 @@ returns-in-err-receiver c =
 pub returns : goal.returns
 returns c =
     let s = c.args.self.now in
-    let e = c.in-ok-receiver.ensures in
-    let t = c.in-ok-table.ensures in
+    let e = c.in_ok-receiver.ensures in
+    let t = c.in_ok-table.ensures in
     let p = c.in-Some.plan in
     let width = c.needed_width.ensures ∙ ap (λ q. needed_width q.symbol_bits) c.parts.ensures in
-    let lent = c.as-mut-slice.ensures.value in
-    let number = table_made_then s p c.in-Some.is c.args.values c.needed_width.result width c.copy.result (table_meaning c.in-ok-table.table) _ _ t.answer c.copy.ensures t.made (ap length lent) e.answer in
+    let lent = c.as_mut_slice.ensures.value in
+    let number = table_made_then s p c.in-Some.is c.args.values c.needed_width.result width c.copy.result (table_meaning c.in_ok-table.table) _ _ t.answer c.copy.ensures t.made (ap length lent) e.answer in
     let values = with_items_is s.memory c.new-2.new.memory (omega arith) ∙ e.after ∙ (λ i. after_making (c.copy.ensures i) (lent i)) in
-    let view : view_of table_meaning c.in-ok-receiver.receiver ≡ by_table (plan_scheme p) (vec_items c.args.values) =
+    let view : view_of table_meaning c.in_ok-receiver.receiver ≡ by_table (plan_scheme p) (vec_items c.args.values) =
     e.made ∙ (λ i. record { scheme = c.copy.ensures i; meaning = (t.made ∙ ap (λ w. record { width = w; values = vec_items c.args.values }) width) i }) in
     record {
       answer = number;

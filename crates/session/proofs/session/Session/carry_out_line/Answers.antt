@@ -1,0 +1,17 @@
+use Rattle.std.proofs.Common.{Err, refl, ap, ◌∙◌, inl, inr, ⊎_elim}
+use Rattle.std.proofs.lemmas.Result.{err_from_is_err_and}
+use Rattle.session.proofs.session.Session.carry_out_line.Goals as goal
+
+pub returns : goal.returns
+returns c line kept =
+    let d = c.carry_out.ensures in
+    inl (c.in_ok-command.command, c.in_ok-command.ensures line kept, d.answer, d.reply, d.after)
+
+pub returns-in_err-command : goal.returns-in_err-command
+returns-in_err-command c line kept =
+    let p = err_from_is_err_and c.from_residual.result c.from_residual.ensures.1 in
+    let e = c.in_err-command.ensures line kept in
+    ⊎_elim
+    (λ no_memory. inr (inr (p.1 ∙ ap Err (p.2 ∙ no_memory), refl)))
+    (λ no_form. inr (inl (λ d w. no_form.1 (d, w), p.1 ∙ ap Err (p.2 ∙ no_form.0), refl)))
+    e
