@@ -1,27 +1,59 @@
 -- A look that is lent the first part of a block's memory, and of the values.
 -- Assumes nothing.
-use Rattle.std.proofs.Common.{◌≡◌, ℕ, zero, suc, ◌+◌, ◌%◌, ◌<◌, ◌≤◌, Bool, true, cond, eqb, List, ◌++◌, map, length, take, drop, set, ℤ, is_ok, IfOk, Ok, Err, Result, sym, refl, ap, ◌∙◌, subst, mod-lt, add-one, arith}
+use Rattle.std.proofs.Common.{◌≡◌, ℕ, zero, suc, ◌+◌, ◌*◌, ◌/◌, ◌%◌, ◌^◌, ◌<◌, ◌≤◌, min, Bool, true, false, cond, eqb, leb, ◌≢◌, List, ◌++◌, map, length, take, drop, set, ℤ, is_ok, IfOk, Ok, Err, Result, sym, refl, ap, ◌∙◌, subst, mod-lt, add-one, arith}
 use Rattle.std.specs.List.{range_with_len}
 use Rattle.std.proofs.lemmas.List.{length-set, length-take-le, get_or_append_left, take-append-drop, take-take, drop-set-lt}
-use Rattle.std.proofs.lemmas.Bool.{true≢false, and_parts, leb-true}
+use Rattle.std.proofs.lemmas.Bool.{true≢false, and_parts, and_from, leb-true, le-leb, both_ways}
 use Rattle.plan.specs.Faults.{chain_number, outcome}
 use Rattle.plan.specs.Scheme.{Scheme, sent_length}
 use Rattle.plan.specs.declared.fault.ChainFault.{ChainFault}
 use Rattle.code.specs.Coding.{around, pair}
 use Rattle.code.specs.Numbers.{digit, bits_of}
 use Rattle.code.proofs.Filled.{Filled, filled_none, filled_more, filled_all}
+use Rattle.sender.proofs.Outcomes.{accepted}
 use Rattle.score.specs.Blocks.{value_at, step_score, score_after, block_score}
 use Rattle.score.specs.Scale.{Scale}
 use Rattle.search.specs.Looking.{Found, Lengths, long_enough, search_answer, shown}
 use Rattle.search.specs.Searching.{memory as state_bits, steps}
 use Rattle.trellis.specs.Choice.{picked}
 use Rattle.trellis.specs.Marks.{overwritten}
+use Rattle.replay.specs.declared.call.Lent.{Lent}
+use Rattle.replay.specs.Ledger.{lent_of}
 use Rattle.replay.proofs.Kept.{look_yes, yes_only}
 use Rattle.replay.proofs.Stretches.{take_of_set}
 
 -- an accepted look is lent a byte for each bit of the block
 block_yes : (s : Scheme) (l : Lengths) → search_answer s l ≡ 0 → s.block ≤ l.block
 block_yes s l e = leb-true _ _ (and_parts _ _ (and_parts _ _ (and_parts _ _ (and_parts _ _ (yes_only (long_enough s l) e)).0).0).0).1
+
+less : (n lent there : ℕ) → leb n (min lent there) ≡ true → leb n there ≡ true
+less n lent there e = le-leb n there (omega (arith, leb-true n (min lent there) e))
+
+-- a look that is lent everything is accepted where any is
+lent_less : (s : Scheme) (whole : Lengths) (lent : Lent) → search_answer s (lent_of whole lent) ≡ 0 → search_answer s whole ≡ 0
+lent_less s whole lent e =
+    let marks = and_parts _ _ (yes_only (long_enough s (lent_of whole lent)) e) in
+    let new = and_parts _ _ marks.0 in
+    let old = and_parts _ _ new.0 in
+    let both = and_parts _ _ old.0 in
+    let states = 2 ^ state_bits s in
+    ap (λ b. cond b 0 13)
+    (and_from _ _ (and_from _ _ (and_from _ _ (and_from _ _
+    (less (sent_length s) lent.memory whole.values both.0)
+    (less s.block lent.block whole.block both.1))
+    (less states lent.old whole.old old.1))
+    (less states lent.new whole.new new.1))
+    (less (s.block * states / 8) lent.marks whole.marks marks.1))
+
+-- so where that look is refused, each is
+pub look_refused : {X : Type 0} (s : Scheme) (whole : Lengths) (lent : Lent) (r : Result X ChainFault) → outcome chain_number r ≡ search_answer s (lent_of whole lent) → search_answer s whole ≢ 0 → is_ok r ≡ false
+look_refused s whole lent (Ok score) e short = absurd (short (lent_less s whole lent (sym e)))
+look_refused s whole lent (Err fault) e short = refl
+
+-- a refusal has a number
+module _ {X : Type 0} where
+  pub refused_is : (r : Result X ChainFault) (n : ℕ) → outcome chain_number r ≡ n → is_ok r ≡ false → n ≢ 0
+  refused_is r n e refused z = both_ways (is_ok r) refused (accepted {X = X} r (e ∙ z))
 
 overwritten_long : (n : ℕ) (u : ℕ → Bool) (bytes : List ℕ) → length (overwritten n u bytes) ≡ length bytes
 unfolding overwritten

@@ -1,8 +1,9 @@
 // Carrying out the calls of a list, one after the other.
-ghost use Rattle.std.specs.Prelude.{◌≡◌, ◌≤◌, [], map, length, drop, vec_capacity};
+ghost use Rattle.std.specs.Prelude.{◌≡◌, ◌≤◌, ◌≢◌, [], map, length, drop, vec_capacity};
 ghost use Rattle.plan.specs.Faults.{chain_number, outcome};
 ghost use Rattle.plan.specs.Plans.{plan_scheme};
 ghost use Rattle.receiver.specs.Receivers.{view_of};
+ghost use Rattle.search.specs.Looking.{search_answer};
 ghost use Rattle.replay.specs.Given.{given};
 ghost use Rattle.replay.specs.Ledger.{answer, answers as all_answers, after, after_all};
 
@@ -24,7 +25,7 @@ fn answer_of<T: Copy>(shown: Result<T, ChainFault>) -> Result<(), ChainFault>
     }
 }
 
-// Carries out one call.
+// Carries out one call. A look writes nothing where one that is lent everything would be refused.
 fn carry_out<S: Scrambler + Drop, K: Kind>(
     receiver: &mut Receiver<S>,
     kind: &K,
@@ -37,6 +38,8 @@ fn carry_out<S: Scrambler + Drop, K: Kind>(
     ensures answer { outcome chain_number result ≡ answer (view_of S.meaning receiver.old) (given memory.old block.old scores.old marks.old) call }
     ensures after { memory.new ≡ after (view_of S.meaning receiver.old) (given memory.old block.old scores.old marks.old) call memory.old }
     ensures rest { let b = (plan_scheme receiver.old.plan).block in drop b block.new ≡ drop b block.old }
+    ensures block { let w = given memory.old block.old scores.old marks.old in (search_answer (plan_scheme receiver.old.plan) w ≢ 0 → block.new ≡ block.old) }
+    ensures marks { let w = given memory.old block.old scores.old marks.old in (search_answer (plan_scheme receiver.old.plan) w ≢ 0 → marks.new ≡ marks.old) }
     ensures kept { view_of S.meaning receiver.new ≡ view_of S.meaning receiver.old }
 {
     match call {
@@ -74,6 +77,8 @@ pub(crate) fn run<S: Scrambler + Drop, K: Kind>(
     ensures answers { map (outcome chain_number) answers.new.items ≡ all_answers (view_of S.meaning receiver.old) (given memory.old block.old scores.old marks.old) calls.now }
     ensures after { memory.new ≡ after_all (view_of S.meaning receiver.old) (given memory.old block.old scores.old marks.old) calls.now memory.old }
     ensures rest { let b = (plan_scheme receiver.old.plan).block in drop b block.new ≡ drop b block.old }
+    ensures block { let w = given memory.old block.old scores.old marks.old in (search_answer (plan_scheme receiver.old.plan) w ≢ 0 → block.new ≡ block.old) }
+    ensures marks { let w = given memory.old block.old scores.old marks.old in (search_answer (plan_scheme receiver.old.plan) w ≢ 0 → marks.new ≡ marks.old) }
     ensures kept { view_of S.meaning receiver.new ≡ view_of S.meaning receiver.old }
 {
     for call in calls {

@@ -1,5 +1,5 @@
 // A look that is lent the first part of each memory: what it is lent, and at most what there is.
-ghost use Rattle.std.specs.Prelude.{◌≡◌, take, is_ok, IfOk, if◌then◌else◌};
+ghost use Rattle.std.specs.Prelude.{◌≡◌, false, take, is_ok, IfOk, if◌then◌else◌};
 ghost use Rattle.code.specs.Numbers.{bits_of};
 ghost use Rattle.plan.specs.Faults.{chain_number, outcome};
 ghost use Rattle.plan.specs.Plans.{plan_scheme};
@@ -29,6 +29,7 @@ pub(crate) fn look_lent<'a, S: Scrambler + Drop, K: Kind>(
     ensures answer { outcome chain_number result ≡ search_answer (plan_scheme receiver.now.plan) (lent_of (given memory.now block.old scores.old marks.old) lent) }
     ensures found { let k = K.Kind.scale kind.now in let s = plan_scheme receiver.now.plan in let v = value_at (take (sent_length s) memory.now) in IfOk result (λ score. Found k s v (bits_of block.new) score) }
     ensures block { let k = K.Kind.scale kind.now in let s = plan_scheme receiver.now.plan in let v = value_at (take (sent_length s) memory.now) in block.new ≡ (if is_ok result then shown k s v block.old else block.old) }
+    ensures marks { is_ok result ≡ false → marks.new ≡ marks.old }
 {
     let half = scores.len() / 2;
     let (first, second) = scores.split_at_mut(half);

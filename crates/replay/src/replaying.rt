@@ -53,6 +53,8 @@ pub fn replay<S: Scrambler + Drop, K: Kind>(
     ensures block { is_ok result ≡ false → block.new ≡ block.old }
     ensures scores { is_ok result ≡ false → scores.new ≡ scores.old }
     ensures marks { is_ok result ≡ false → marks.new ≡ marks.old }
+    ensures unwritten { IfOk result (λ x. is_ok x.shown ≡ false → block.new ≡ block.old) }
+    ensures unmarked { IfOk result (λ x. is_ok x.shown ≡ false → marks.new ≡ marks.old) }
 {
     let mut answers = Vec::with_capacity(heap, calls.len())?;
     let mut receiver = Receiver::new(plan, scrambler, memory)?;

@@ -1,6 +1,7 @@
-use Rattle.std.proofs.Common.{◌≡◌, ◌+◌, ◌-◌, ◌/◌, ◌<◌, true, length, get_or, drop, is_ok, vec_items, vec_len, vec_capacity, refl, ap, ◌∙◌, subst, arith}
+use Rattle.std.proofs.Common.{◌≡◌, ◌+◌, ◌-◌, ◌/◌, ◌<◌, true, length, get_or, drop, is_ok, vec_items, vec_len, vec_capacity, sym, refl, ap, ◌∙◌, subst, arith}
 use Rattle.std.proofs.lemmas.Bool.{cond-true}
 use Rattle.receiver.specs.Receivers.{view_of}
+use Rattle.search.specs.Looking.{search_answer}
 use Rattle.replay.specs.Given.{given}
 use Rattle.replay.specs.Ledger.{answer, after}
 use Rattle.replay.specs.declared.call.Call.TheVariants.{Hear}
@@ -12,7 +13,7 @@ loop-call-init g c =
     let a = c.args in
     let v = view_of g.S.Scrambler.meaning a.receiver.now in
     let whole = given a.memory.now a.block.now a.scores.now a.marks.now in
-    (refl, none_carried v whole a.calls.now a.memory.now a.block.now (vec_items a.answers.now) c.requires.empty, (a.answers.now.ok.0 ∙ ap length c.requires.empty), c.requires.room)
+    (refl, none_carried v whole a.calls.now a.memory.now a.block.now (vec_items a.answers.now) c.requires.empty, (a.answers.now.ok.0 ∙ ap length c.requires.empty), c.requires.room, λ _. (refl, refl))
 
 pub loop-call-preserved : goal.loop-call-preserved
 loop-call-preserved g c =
@@ -40,6 +41,8 @@ loop-call-preserved g c =
           (c.push.ensures.items ∙ cond-true _ _ _ pushed),
       c.push.ensures.len ∙ cond-true _ _ _ pushed ∙ ap (λ n. n + 1) was.2,
       (let more = c.push.ensures.capacity in omega (arith, more, was.3)),
+      λ short. (let still = λ (e : search_answer (view_of g.S.Scrambler.meaning turn.receiver).scheme (given turn.memory turn.block turn.scores turn.marks) ≡ 0). short ((λ x. search_answer (sym was.0 x).scheme (sym whole_is x)) ∙ e) in
+          (c.carry_out-answer.ensures.block still ∙ (was.4 short).0, c.carry_out-answer.ensures.marks still ∙ (was.4 short).1)),
     )
 
 pub returns : goal.returns
@@ -49,4 +52,4 @@ returns g c =
     let whole = given a.memory.now a.block.now a.scores.now a.marks.now in
     let turn = c.loop-call in
     let done = all_carried v whole a.calls.now a.memory.now a.block.now turn.call-index turn.memory turn.block (vec_items turn.answers) c.loop-call-test.false turn.invariant.1 in
-    record { answers = done.answered; after = done.values; rest = done.rest; kept = turn.invariant.0 }
+    record { answers = done.answered; after = done.values; rest = done.rest; block = λ short. (turn.invariant.4 short).0; marks = λ short. (turn.invariant.4 short).1; kept = turn.invariant.0 }

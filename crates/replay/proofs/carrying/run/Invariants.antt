@@ -1,5 +1,6 @@
-use Rattle.std.proofs.Common.{◌≡◌, ◌≤◌, length, take, vec_items, vec_len, vec_capacity}
+use Rattle.std.proofs.Common.{◌≡◌, ◌≢◌, ◌≤◌, length, take, vec_items, vec_len, vec_capacity}
 use Rattle.receiver.specs.Receivers.{view_of}
+use Rattle.search.specs.Looking.{search_answer}
 use Rattle.replay.specs.Given.{given}
 use Rattle.replay.proofs.Carried.{Carried}
 use Rattle.replay.proofs.carrying.run.Given as given_here
@@ -12,3 +13,4 @@ invariant-loop-call g l =
     × Carried v whole (take l.call-index l.calls) l.initial.memory l.memory l.initial.block l.block (vec_items l.answers)
     × (vec_len l.answers ≡ l.call-index)
     × (length l.calls ≤ vec_capacity l.answers)
+    × (search_answer v.scheme whole ≢ 0 → (l.block ≡ l.initial.block) × (l.marks ≡ l.initial.marks))

@@ -1,4 +1,5 @@
-use Rattle.std.proofs.Common.{◌≡◌, ◌-◌, ◌/◌, ◌<◌, ◌≤◌, min, length, ap, ◌∙◌, arith}
+use Rattle.std.proofs.Common.{◌≡◌, ◌-◌, ◌/◌, ◌<◌, ◌≤◌, ◌++◌, min, length, drop, ap, ◌∙◌, arith}
+use Rattle.std.proofs.lemmas.List.{take-append-drop}
 use native.Mathlib.Nat.{sub-zero}
 use Rattle.plan.proofs.Facts.{facts}
 use Rattle.plan.specs.Faults.{chain_number, outcome}
@@ -45,4 +46,5 @@ returns g c =
       answer = answered;
       found = found_back k s l n count values block c.look.new.block lent_block room lent_values low c.look.result answered c.look.ensures.block c.look.ensures.found;
       block = block_back k s l n count values block c.look.new.block lent_block room lent_values c.look.result answered c.look.ensures.block;
+      marks = λ e. ap (λ l. l ++ drop (c.min-bytes.result - 0) a.marks.now) (c.look.ensures.marks e) ∙ take-append-drop (c.min-bytes.result - 0) a.marks.now;
     }

@@ -1,5 +1,5 @@
-use Rattle.std.proofs.Common.{◌≡◌, ◌-◌, ◌/◌, cond, length, take, drop, is_ok, Ok, sym, refl, ap, ◌∙◌, subst}
-use Rattle.std.proofs.lemmas.Bool.{true≢false}
+use Rattle.std.proofs.Common.{◌≡◌, ◌≢◌, ◌-◌, ◌/◌, false, cond, length, take, drop, is_ok, Ok, sym, refl, ap, ◌∙◌, subst}
+use Rattle.std.proofs.lemmas.Bool.{true≢false, cond-false}
 use Rattle.plan.specs.Faults.{chain_number, outcome}
 use Rattle.plan.specs.Plans.{plan_scheme}
 use Rattle.plan.specs.Scheme.{sent_length}
@@ -12,7 +12,7 @@ use Rattle.search.specs.Looking.{search_answer, shown}
 use Rattle.replay.specs.Given.{given}
 use Rattle.replay.specs.Ledger.{answers, after_all, ledger}
 use Rattle.replay.proofs.Kept.{ledger_front, ledger_rest}
-use Rattle.replay.proofs.Looked.{shown_rest, shown_over}
+use Rattle.replay.proofs.Looked.{refused_is, shown_rest, shown_over}
 use Rattle.replay.proofs.Whole.{making_yes, made_of, lent_whole, promise_made}
 use Rattle.replay.proofs.replaying.replay.Goals as goal
 
@@ -44,12 +44,16 @@ returns g c =
     (c.run.auto.memory ∙ c.new.auto.memory) c.run.auto.block c.run.auto.scores c.run.auto.marks in
     let past_run : drop s.block c.run.new.block ≡ drop s.block block =
     subst (λ n. drop n c.run.new.block ≡ drop n block) (ap (λ w. w.scheme.block) view_made) c.run.ensures.rest in
+    let short_made : search_answer (view_of meaning receiver).scheme (given c.new.new.memory block a.scores.now a.marks.now) ≡ search_answer s whole =
+    (λ x. search_answer (view_made x).scheme (whole_made x)) in
     let looked : outcome chain_number c.look_lent-shown.result ≡ search_answer s whole =
     c.look_lent-shown.ensures.answer ∙ (λ x. search_answer (view_run x).scheme (lent x)) in
     let block_shown : c.look_lent-shown.new.block ≡ cond (is_ok c.look_lent-shown.result) (shown k s (value_at (ledger v whole calls)) c.run.new.block) c.run.new.block =
     c.look_lent-shown.ensures.block
     ∙ (λ x. cond (is_ok c.look_lent-shown.result) (shown k (view_run x).scheme (value_at (take (sent_length (view_run x).scheme) c.run.new.memory)) c.run.new.block) c.run.new.block)
     ∙ ap (λ l. cond (is_ok c.look_lent-shown.result) (shown k s (value_at l) c.run.new.block) c.run.new.block) front in
+    let none_shown : is_ok c.look_lent-shown.result ≡ false → search_answer (view_of meaning receiver).scheme (given c.new.new.memory block a.scores.now a.marks.now) ≢ 0 =
+    λ e z. refused_is c.look_lent-shown.result _ looked e (sym short_made ∙ z) in
     record {
       answer = λ _. sym yes_said;
       answers = c.run.ensures.answers ∙ (λ x. answers (view_made x) (whole_made x) calls);
@@ -64,4 +68,6 @@ returns g c =
       block = λ e. absurd (true≢false e);
       scores = λ e. absurd (true≢false e);
       marks = λ e. absurd (true≢false e);
+      unwritten = λ e. block_shown ∙ cond-false _ _ _ e ∙ c.run.ensures.block (none_shown e);
+      unmarked = λ e. c.look_lent-shown.ensures.marks e ∙ c.run.ensures.marks (none_shown e);
     }
