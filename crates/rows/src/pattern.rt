@@ -17,7 +17,7 @@ pub(crate) struct Pattern {
 
 // The two rows of a mask, laid over pairs that come so often each.
 fn mask(first: &'static [u8], second: &'static [u8], repeats: usize) -> Pattern
-    ensures { puncture_of result ≡ record { first = first.entry.now; second = second.now; repeats = repeats } }
+    ensures { puncture_of result ≡ record { first = first.now; second = second.now; repeats = repeats } }
 {
     Pattern {
         first,
