@@ -6,3 +6,51 @@ mod session;
 
 pub use command_room::CommandRoom;
 pub use session::Session;
+
+#[cfg(test)]
+mod tests {
+    use super::*;
+    use lines::{Line, answer_text};
+    use std::alloc::Global;
+    use std::test::Fail;
+
+    // What a session answers to these lines, one after the other.
+    fn answers(heap: Global, lines: &[&str]) -> Result<String, Fail> {
+        let mut session = Session::new(heap)?;
+        let mut said = String::new(heap);
+        let mut number: u16 = 0;
+        for text in lines {
+            number = number.saturating_add(1);
+            let mut line = Line::new(heap);
+            for byte in text.bytes() {
+                line.push(byte)?;
+            }
+            let answer = session.answer(heap, &line, number, CommandRoom::new(heap)?);
+            said.push_str(answer_text(heap, &answer)?.as_str())?;
+        }
+        Ok(said)
+    }
+
+    // A transmission heard exactly comes back, and a place past the last is refused.
+    #[test]
+    fn lines_are_answered(rt: HostRuntime) -> Result<(), Fail> {
+        let said = answers(
+            rt.alloc(),
+            &[
+                "P07030400010205000009030004000005",
+                "S01020304",
+                "H000000060001",
+                "H000001050001",
+                "H000002030001",
+                "H000003030001",
+                "H000004060001",
+                "L",
+            ],
+        )?;
+        assert_eq!(rt;
+            said.as_str(),
+            "A\nA\nA\nA\nA\nA\nR0E0007\nL00000000000000008000\n"
+        );
+        Ok(())
+    }
+}
