@@ -102,8 +102,8 @@ module _ {S : Type 0} (k : Scale S) (s : Scheme) where
         let u = picked (steps k s all_values) (state_bits s) s.block in
         let front_is : front ≡ take n (overwritten s.block u block) =
         is ∙ ap (λ v. shown k s v (take n block)) (values_same (sym e)) ∙ sym (overwritten_front s.block u block n) in
-        let rest-is : drop n block ≡ drop n (overwritten s.block u block) = sym (overwritten_rest s.block u block n (omega (arith, block_yes s l (sym e)))) in
-        (λ x. front_is x ++ rest-is x) ∙ take-append-drop n (overwritten s.block u block)
+        let rest_is : drop n block ≡ drop n (overwritten s.block u block) = sym (overwritten_rest s.block u block n (omega (arith, block_yes s l (sym e)))) in
+        (λ x. front_is x ++ rest_is x) ∙ take-append-drop n (overwritten s.block u block)
     block_back (Err fault) e is = ap (λ f. f ++ drop n block) is ∙ take-append-drop n block
 
     -- what was found in the front is found in the whole

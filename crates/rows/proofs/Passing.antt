@@ -15,9 +15,9 @@ scheme_passes s =
     constraint_fits s && (period_fits s && (entries_fit s && (block_fits s && (sent_fits s && (bits_fit s && (frame_fits s
     && (within 1 (sent_length s) s.increment && ends_at_one 64 s.increment (sent_length s))))))))
 
-then-yes : (b : Bool) (n rest : ℕ) → b ≡ true → rest ≡ 0 → cond (not b) n rest ≡ 0
-then-yes true n rest t e = e
-then-yes false n rest t e = absurd (false≢true t)
+then_yes : (b : Bool) (n rest : ℕ) → b ≡ true → rest ≡ 0 → cond (not b) n rest ≡ 0
+then_yes true n rest t e = e
+then_yes false n rest t e = absurd (false≢true t)
 
 pub plan_answer_passes : (s : Scheme) → scheme_passes s ≡ true → plan_answer s ≡ 0
 plan_answer_passes s t =
@@ -30,14 +30,14 @@ plan_answer_passes s t =
     let q7 = and_parts (frame_fits s) _ q6.1 in
     let q8 = and_parts (within 1 (sent_length s) s.increment) _ q7.1 in
     let eight = and_from _ _ q8.0 (coprime_from_steps 64 s.increment (sent_length s) q8.1) in
-    then-yes (constraint_fits s) 1 _ q1.0
-    (then-yes (period_fits s) 2 _ q2.0
-    (then-yes (entries_fit s) 3 _ q3.0
-    (then-yes (block_fits s) 4 _ q4.0
-    (then-yes (sent_fits s) 5 _ q5.0
-    (then-yes (bits_fit s) 6 _ q6.0
-    (then-yes (frame_fits s) 7 _ q7.0
-    (then-yes (increment_fits s) 8 0 eight refl)))))))
+    then_yes (constraint_fits s) 1 _ q1.0
+    (then_yes (period_fits s) 2 _ q2.0
+    (then_yes (entries_fit s) 3 _ q3.0
+    (then_yes (block_fits s) 4 _ q4.0
+    (then_yes (sent_fits s) 5 _ q5.0
+    (then_yes (bits_fit s) 6 _ q6.0
+    (then_yes (frame_fits s) 7 _ q7.0
+    (then_yes (increment_fits s) 8 0 eight refl)))))))
 
 -- an entry with one constraint length
 abbrev pub passes_with : Entry → ℕ → Bool

@@ -39,9 +39,9 @@ first_no : (b : Bool) (n later : ℕ) → eqb n 0 ≡ false → n ≡ cond b 0 1
 first_no true n later other e = absurd (eqb-false n 0 other e)
 first_no false n later other e = e
 
-then-asked : (b : Bool) (later : ℕ) → ◌≡◌ {A = ℕ} 0 (cond b 0 10) → later ≡ cond b later 10
-then-asked true later e = refl
-then-asked false later e = absurd (omega arith)
+then_asked : (b : Bool) (later : ℕ) → ◌≡◌ {A = ℕ} 0 (cond b 0 10) → later ≡ cond b later 10
+then_asked true later e = refl
+then_asked false later e = absurd (omega arith)
 
 module _ (s : Session) (p : Plan) (is : s.plan ≡ Some p) (values : Vec ℕ Global) (width : ℕ) (needed : width ≡ needed_width (plan_scheme p).bits) where
   asked_of_plan : table_answer (plan_scheme p) (vec_items values) (length (vec_items s.memory)) ≡ answer (held s) (TableLine values)
@@ -58,5 +58,5 @@ module _ (s : Session) (p : Plan) (is : s.plan ≡ Some p) (values : Vec ℕ Glo
   table_made_then q m n lent fits same means long e =
       e
       ∙ (λ i. making_answer (record { scheme = same i; meaning = (means ∙ ap (λ w. record { width = w; values = vec_items values }) needed) i }) (long i))
-      ∙ then-asked (table_fits (needed_width (plan_scheme p).bits) (vec_items values)) _ (fits ∙ ap (λ w. table_made (table_fits w (vec_items values))) needed)
+      ∙ then_asked (table_fits (needed_width (plan_scheme p).bits) (vec_items values)) _ (fits ∙ ap (λ w. table_made (table_fits w (vec_items values))) needed)
       ∙ asked_of_plan

@@ -29,7 +29,7 @@ returns g c =
     let second = c.split_at_mut-first.result.1.now in
     let scores = length a.scores.now in
     let old_part : c.min-states.result - 0 ≡ min a.lent.old (length first) = sub-zero c.min-states.result ∙ c.min-states.ensures in
-    let new-part : c.min-ends.result - 0 ≡ min a.lent.new (length second) = sub-zero c.min-ends.result ∙ c.min-ends.ensures in
+    let new_part : c.min-ends.result - 0 ≡ min a.lent.new (length second) = sub-zero c.min-ends.result ∙ c.min-ends.ensures in
     let rest : length second ≡ scores - scores / 2 = omega (arith, c.split_at_mut-first.ensures.back_len) in
     let answered : outcome chain_number c.look.result ≡ search_answer s l =
     c.look.ensures.answer
@@ -37,7 +37,7 @@ returns g c =
       values = part_long count a.lent.memory values lent_values x;
       block = part_long n a.lent.block block lent_block x;
       old = (part_long (c.min-states.result - 0) a.lent.old first old_part ∙ ap (min a.lent.old) c.split_at_mut-first.ensures.front_len) x;
-      new = (part_long (c.min-ends.result - 0) a.lent.new second new-part ∙ ap (min a.lent.new) rest) x;
+      new = (part_long (c.min-ends.result - 0) a.lent.new second new_part ∙ ap (min a.lent.new) rest) x;
       marks = part_long (c.min-bytes.result - 0) a.lent.marks a.marks.now lent_marks x;
     })) in
     let low : 0 < s.block = omega (arith, (facts s a.receiver.now.plan.accepted).block_low) in
