@@ -1,14 +1,15 @@
 // Why a call is refused: a case for each question, in the order in which the questions are asked.
 ghost use Rattle.std.specs.Prelude.{◌≡◌};
+ghost use Rattle.plan.specs.Faults.{plan_number, chain_number};
 ghost use Rattle.plan.specs.declared.fault.ChainFault.TheVariants.{Plan, OutOfMemory};
 
 use std::alloc::{AllocError, AllocFailed};
 use std::fmt;
 
-// What is wrong with the parts of a plan.
+// What is wrong with the parts of a plan, numbered from 1 as the questions are.
 #[derive(Clone, Copy, Debug, PartialEq, Eq)]
 pub enum PlanFault {
-    ConstraintLength,
+    ConstraintLength = 1,
     Period,
     Entry,
     BlockLength,
@@ -56,6 +57,36 @@ impl<T: Drop> From<AllocFailed<T>> for ChainFault {
 
     fn from(_e: AllocFailed<T>) -> ChainFault {
         ChainFault::OutOfMemory
+    }
+}
+
+// The number of the question that was answered no.
+impl From<PlanFault> for u8 {
+    ghost from_gives = { λ fault number. number ≡ plan_number fault };
+
+    fn from(fault: PlanFault) -> u8 {
+        fault as u8
+    }
+}
+
+// A carried fault has its own number.
+impl From<ChainFault> for u8 {
+    ghost from_gives = { λ fault number. number ≡ chain_number fault };
+
+    fn from(fault: ChainFault) -> u8 {
+        match fault {
+            ChainFault::Plan(below) => u8::from(below),
+            ChainFault::Row => 9,
+            ChainFault::Scrambler => 10,
+            ChainFault::Fit => 11,
+            ChainFault::Block => 12,
+            ChainFault::TooShort => 13,
+            ChainFault::Place => 14,
+            ChainFault::Index => 15,
+            ChainFault::Mapping => 16,
+            ChainFault::Location => 17,
+            ChainFault::OutOfMemory => 255,
+        }
     }
 }
 
