@@ -1,4 +1,5 @@
 pub mod Ratios
+pub mod Interleavers
 pub mod Patterns
 pub mod Masks
 pub mod Table

@@ -5,6 +5,7 @@ ghost use Rattle.rows.specs.Rows.{place_of, symbol_bits, row_setting, depth_at, 
 ghost use Rattle.rows.specs.Schemes.{Consistent};
 ghost use Rattle.rows.specs.Table.{bandwidths};
 
+use crate::interleaver::Interleaver;
 use crate::rate::Rate;
 use crate::row::{Entry, Row};
 use crate::table::{Depth, Setting, printed};
@@ -63,12 +64,11 @@ fn setting(row: Row) -> Option<Setting>
 fn depth(setting: Setting, interleaver: usize) -> Option<Depth>
     ensures { result ≡ depth_at setting interleaver }
 {
-    match interleaver {
-        0 => Some(setting.1),
-        1 => Some(setting.2),
-        2 => Some(setting.3),
-        3 => Some(setting.4),
-        _ => None,
+    match Interleaver::try_from(interleaver).ok()? {
+        Interleaver::UltraShort => Some(setting.1),
+        Interleaver::Short => Some(setting.2),
+        Interleaver::Medium => Some(setting.3),
+        Interleaver::Long => Some(setting.4),
     }
 }
 
