@@ -1,9 +1,9 @@
 -- The whole table passes one test, so each of its entries is consistent.
 -- Assumes nothing.
-use Rattle.std.proofs.Common.{◌≡◌, ℕ, zero, suc, ◌+◌, ◌-◌, ◌*◌, ◌≤◌, Bool, true, false, cond, ◌&&◌, eqb, List, [], ◌∷◌, get_or, Some, None, Option, sym, refl, subst, add-zero, arith}
+use Rattle.std.proofs.Common.{◌≡◌, ℕ, zero, suc, ◌+◌, ◌-◌, ◌*◌, ◌≤◌, Bool, true, false, cond, ◌&&◌, eqb, position, List, [], ◌∷◌, get_or, Some, None, Option, sym, refl, subst, add-zero, arith}
 use Rattle.std.proofs.lemmas.Bool.{and_parts, leb-true}
 use Rattle.plan.specs.Questions.{within}
-use Rattle.rows.specs.Rows.{place_of, setting_at, symbol_bits, row_setting, depth_at, entry_of}
+use Rattle.rows.specs.Rows.{setting_at, symbol_bits, row_setting, depth_at, entry_of}
 use Rattle.rows.specs.Table.{bandwidths, table}
 use Rattle.rows.specs.declared.rate.Rate.{Rate}
 use Rattle.rows.specs.declared.row.Row.{Row}
@@ -64,11 +64,11 @@ at_setting None row s low e = let z : ◌≡◌ {A = ℕ} 0 1 = cc in absurd (om
 at_setting (Some band) row s low e = subst (λ o. setting_passes row.waveform o ≡ true) e (printed_passes band row.waveform low)
 
 found_where : (b : Bool) (row : Row) (s : Setting) → within 1 13 row.waveform ≡ b →
-    cond b (setting_at (place_of row.bandwidth bandwidths) (row.waveform - 1)) None ≡ Some s → Found row s
+    cond b (setting_at (position (λ b. eqb b row.bandwidth) bandwidths) (row.waveform - 1)) None ≡ Some s → Found row s
 found_where true row s t e =
     let p = and_parts _ _ t in
     let low : 1 ≤ row.waveform = leb-true _ _ p.0 in
-    record { low = low; high = leb-true _ _ p.1; passes = at_setting (place_of row.bandwidth bandwidths) row s low e }
+    record { low = low; high = leb-true _ _ p.1; passes = at_setting (position (λ b. eqb b row.bandwidth) bandwidths) row s low e }
 found_where false row s t e = let z : ◌≡◌ {A = ℕ} 0 1 = cc in absurd (omega arith)
 
 -- a setting that the table has for a row

@@ -1,6 +1,6 @@
 -- What the standard says of a row.
 -- Assumes nothing.
-use Rattle.std.specs.Prelude.{ℕ, suc, ◌-◌, ◌*◌, ◌/◌, cond, List, [], ◌∷◌, Some, None, Option, ◌==◌, slice_index, slice_index_or}
+use Rattle.std.specs.Prelude.{ℕ, ◌-◌, ◌*◌, ◌/◌, cond, [], ◌∷◌, Some, None, Option, ◌==◌, position, slice_index, slice_index_or}
 use Rattle.std.specs.Option.{option_map}
 use Rattle.plan.specs.Questions.{within}
 use Rattle.rows.specs.Table.{bandwidths, table}
@@ -9,11 +9,6 @@ use Rattle.rows.specs.declared.row.Entry.{Entry}
 use Rattle.rows.specs.declared.row.Row.{Row}
 use Rattle.rows.specs.declared.table.Depth.{Depth}
 use Rattle.rows.specs.declared.table.Setting.{Setting}
-
--- the place of the first number that is x, where there is one
-abbrev pub place_of : ℕ → List ℕ → Option ℕ
-place_of x [] = None
-place_of x (y ∷ ys) = cond (x == y) (Some 0) (option_map suc (place_of x ys))
 
 -- the bits of a symbol for the waveforms from 1 on
 abbrev pub symbol_bits : ℕ → ℕ
@@ -26,7 +21,7 @@ setting_at (Some band) place = slice_index_or (slice_index_or table band []) pla
 
 -- what the table has for a row's bandwidth and waveform
 abbrev pub row_setting : Row → Option Setting
-row_setting row = cond (within 1 13 row.waveform) (setting_at (place_of row.bandwidth bandwidths) (row.waveform - 1)) None
+row_setting row = cond (within 1 13 row.waveform) (setting_at (position (λ b. b == row.bandwidth) bandwidths) (row.waveform - 1)) None
 
 -- the interleaver of a number: 0 ultra short, 1 short, 2 medium, 3 long
 abbrev pub depth_at : Setting → ℕ → Option Depth

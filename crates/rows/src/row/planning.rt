@@ -6,9 +6,8 @@ ghost use Rattle.plan.specs.Parts.{scheme};
 ghost use Rattle.plan.specs.declared.fault.ChainFault.TheVariants.{OutOfMemory};
 ghost use Rattle.rows.specs.Schemes.{entry_scheme, is_constraint, row_answer, row_scheme, Answered};
 
-use crate::pattern::pattern_of;
+use crate::pattern::Pattern;
 use crate::row::{Entry, Row};
-use crate::sending::send_list;
 use plan::{ChainFault, Parts, Plan, PlanFault};
 use std::alloc::Global;
 
@@ -40,8 +39,8 @@ fn parts_of(heap: Global, entry: Entry, constraint: usize) -> Result<Parts, Chai
     ensures made { IfOk result (λ p. scheme p ≡ entry_scheme entry constraint) }
     ensures refused { IfErr result (λ e. e ≡ OutOfMemory) }
 {
-    let pattern = pattern_of(entry.rate, constraint);
-    let send_list = send_list(heap, pattern)?;
+    let pattern = Pattern::of(entry.rate, constraint);
+    let send_list = pattern.send_list(heap)?;
     Ok(Parts {
         constraint,
         period: pattern.period(),

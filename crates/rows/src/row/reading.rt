@@ -1,7 +1,6 @@
 // The table's answer to a row.
-ghost use Rattle.std.specs.Prelude.{◌≡◌, ◌*◌, ◌<◌, ◌≤◌, IfSome};
-ghost use Rattle.plan.specs.Questions.{within};
-ghost use Rattle.rows.specs.Rows.{place_of, symbol_bits, row_setting, depth_at, entry_of, row_entry};
+ghost use Rattle.std.specs.Prelude.{◌≡◌, ◌*◌, ◌<◌, ◌≤◌, IfSome, ◌==◌, position};
+ghost use Rattle.rows.specs.Rows.{symbol_bits, row_setting, depth_at, entry_of, row_entry};
 ghost use Rattle.rows.specs.Schemes.{Consistent};
 ghost use Rattle.rows.specs.Table.{bandwidths};
 
@@ -10,26 +9,15 @@ use crate::rate::Rate;
 use crate::row::{Entry, Row};
 use crate::table::{Depth, Setting, printed};
 
+// The bandwidths in kHz, in the table's order.
+static BANDWIDTHS: [usize; 12] = [3, 6, 9, 12, 15, 18, 21, 24, 30, 36, 42, 48];
+
 // The place of a bandwidth in the table.
 fn band(bandwidth: usize) -> Option<usize>
-    ensures value { result ≡ place_of bandwidth bandwidths }
+    ensures value { result ≡ position (λ b. b == bandwidth) bandwidths }
     ensures within { IfSome result (λ i. i < 12) }
 {
-    match bandwidth {
-        3 => Some(0),
-        6 => Some(1),
-        9 => Some(2),
-        12 => Some(3),
-        15 => Some(4),
-        18 => Some(5),
-        21 => Some(6),
-        24 => Some(7),
-        30 => Some(8),
-        36 => Some(9),
-        42 => Some(10),
-        48 => Some(11),
-        _ => None,
-    }
+    BANDWIDTHS.iter().position(|b| *b == bandwidth)
 }
 
 // The bits of a symbol for the waveforms 1 to 13.
@@ -42,22 +30,14 @@ fn symbol_bits(waveform: usize) -> usize
     SYMBOL_BITS[waveform - 1]
 }
 
-// Waveform 0 is of another kind.
-fn is_waveform(waveform: usize) -> bool
-    ensures { result ≡ within 1 13 waveform }
-{
-    1 <= waveform && waveform <= 13
-}
-
-// What the table has for the bandwidth and the waveform.
+// What the table has for the bandwidth and the waveform. Waveform 0 is of another kind.
 fn setting(row: Row) -> Option<Setting>
     ensures { result ≡ row_setting row }
 {
-    let band = band(row.bandwidth)?;
-    if !is_waveform(row.waveform) {
-        return None;
+    match row.waveform {
+        1..=13 => printed(band(row.bandwidth)?, row.waveform - 1),
+        _ => None,
     }
-    printed(band, row.waveform - 1)
 }
 
 // The interleaver of this number.
