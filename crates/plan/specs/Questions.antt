@@ -1,6 +1,7 @@
 -- The eight questions that a plan is asked, in their order.
 -- Assumes nothing.
-use Rattle.std.specs.Prelude.{ℕ, zero, suc, ◌+◌, ◌-◌, ◌*◌, ◌%◌, Bool, true, cond, not, ◌&&◌, ◌||◌, List, [], ◌∷◌, length, ◌==◌, nat_le, nat_lt}
+use Rattle.std.specs.Prelude.{ℕ, zero, suc, ◌+◌, ◌-◌, ◌*◌, ◌%◌, Bool, true, cond, not, ◌&&◌, ◌||◌, List, length, ◌==◌, nat_le, nat_lt}
+use Rattle.std.specs.List.{list_all}
 use Rattle.plan.specs.Scheme.{Scheme, sent_length}
 
 -- n lies from low to high, both included
@@ -13,8 +14,7 @@ divides d n = n % d == 0
 
 -- every entry is below the bound
 abbrev pub all_below : ℕ → List ℕ → Bool
-all_below bound [] = true
-all_below bound (e ∷ es) = nat_lt e bound && all_below bound es
+all_below bound = list_all (λ e. nat_lt e bound)
 
 -- none of the numbers from 2 to count + 1 divides both a and n
 abbrev pub none_divides : ℕ → ℕ → ℕ → Bool

@@ -10,5 +10,5 @@ mod room;
 pub use fault::{ChainFault, PlanFault};
 pub use parts::Parts;
 pub use plan::Plan;
-pub use questions::all_below;
+pub use questions::{all_below, constraint_fits};
 pub use room::ListRoom;

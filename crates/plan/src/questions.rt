@@ -2,16 +2,11 @@
 ghost use Rattle.std.specs.Prelude.{◌≡◌, ◌*◌, ◌/◌, ◌<◌, ◌≤◌, ◌&&◌, ◌||◌, length, ◌==◌, nat_eq};
 ghost use Rattle.plan.specs.Questions.{within, divides, all_below, coprime};
 
-pub(crate) fn constraint_fits(constraint: usize) -> bool
+// Whether a code of this constraint length is known.
+pub fn constraint_fits(constraint: usize) -> bool
     ensures { result ≡ (constraint == 7 || constraint == 9) }
 {
-    constraint == 7 || constraint == 9
-}
-
-pub(crate) fn lies_within(low: usize, high: usize, n: usize) -> bool
-    ensures { result ≡ within low high n }
-{
-    low <= n && n <= high
+    matches!(constraint, 7 | 9)
 }
 
 pub(crate) fn is_multiple(n: usize, divisor: usize) -> bool
@@ -24,39 +19,34 @@ pub(crate) fn is_multiple(n: usize, divisor: usize) -> bool
 pub(crate) fn period_fits(period: usize, entries: usize) -> bool
     ensures { result ≡ (within 1 12 period && within 1 32 entries) }
 {
-    lies_within(1, 12, period) && lies_within(1, 32, entries)
+    (1..=12).contains(&period) && (1..=32).contains(&entries)
 }
 
 // Whether every byte is below the bound.
 pub fn all_below(bytes: &[u8], bound: usize) -> bool
     ensures { result ≡ all_below bound bytes.now }
 {
-    for byte in bytes {
-        if usize::from(*byte) >= bound {
-            return false;
-        }
-    }
-    true
+    bytes.iter().all(|byte| usize::from(*byte) < bound)
 }
 
 pub(crate) fn block_fits(block_length: usize, period: usize) -> bool
     requires { 0 < period }
     ensures { result ≡ (within 9 1843200 block_length && divides period block_length) }
 {
-    lies_within(9, 1_843_200, block_length) && is_multiple(block_length, period)
+    (9..=1_843_200).contains(&block_length) && is_multiple(block_length, period)
 }
 
 pub(crate) fn bits_fit(symbol_bits: usize) -> bool
     ensures { result ≡ (within 1 6 symbol_bits || nat_eq symbol_bits 8) }
 {
-    lies_within(1, 6, symbol_bits) || symbol_bits == 8
+    matches!(symbol_bits, 1..=6 | 8)
 }
 
 pub(crate) fn frame_fits(frame_length: usize, symbol_bits: usize, sent_length: usize) -> bool
     requires { (0 < symbol_bits) × (symbol_bits ≤ 8) }
     ensures { result ≡ (within 1 4096 frame_length && divides (symbol_bits * frame_length) sent_length) }
 {
-    lies_within(1, 4096, frame_length) && is_multiple(sent_length, symbol_bits * frame_length)
+    (1..=4096).contains(&frame_length) && is_multiple(sent_length, symbol_bits * frame_length)
 }
 
 // Whether a and n share no divisor above 1, by Euclid's rule.
@@ -77,5 +67,5 @@ pub(crate) fn is_coprime(a: usize, n: usize) -> bool
 pub(crate) fn increment_fits(increment: usize, sent_length: usize) -> bool
     ensures { result ≡ (within 1 sent_length increment && coprime increment sent_length) }
 {
-    lies_within(1, sent_length, increment) && is_coprime(increment, sent_length)
+    (1..=sent_length).contains(&increment) && is_coprime(increment, sent_length)
 }

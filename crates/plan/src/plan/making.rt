@@ -30,7 +30,7 @@ impl Plan {
         if !block_fits(parts.block_length, parts.period) {
             return Err(PlanFault::BlockLength);
         }
-        let sent_length = sent_length_of(&parts);
+        let sent_length = parts.sent_length();
         if sent_length > 2_211_840 {
             return Err(PlanFault::SentLength);
         }
@@ -57,17 +57,11 @@ impl Plan {
     pub fn copy(&self, room: ListRoom) -> Plan
         ensures { plan_scheme result ≡ plan_scheme self.now }
     {
-        let parts = &self.parts;
-        let send_list = copied(room, parts.send_list.as_slice());
+        let send_list = copied(room, self.parts.send_list.as_slice());
         Plan {
             parts: Parts {
-                constraint: parts.constraint,
-                period: parts.period,
                 send_list,
-                block_length: parts.block_length,
-                symbol_bits: parts.symbol_bits,
-                frame_length: parts.frame_length,
-                increment: parts.increment,
+                ..self.parts
             },
             sent_length: self.sent_length,
         }
@@ -96,12 +90,4 @@ fn copied(room: ListRoom, entries: &[u8]) -> Vec<u8>
     let mut list = room.into_list();
     let _ = list.extend_from_slice(entries);
     list
-}
-
-// The send list runs once for each period of the block.
-fn sent_length_of(parts: &Parts) -> usize
-    requires { (0 < parts.now.period) × ((parts.now.block_length ≤ 1843200) × (vec_len parts.now.send_list ≤ 32)) }
-    ensures { result ≡ sent_length (scheme parts.now) }
-{
-    parts.block_length / parts.period * parts.send_list.len()
 }
