@@ -4,19 +4,12 @@ ghost use Rattle.plan.specs.Faults.{chain_number, outcome};
 ghost use Rattle.plan.specs.Plans.{plan_scheme};
 ghost use Rattle.plan.specs.Parts.{scheme};
 ghost use Rattle.plan.specs.declared.fault.ChainFault.TheVariants.{OutOfMemory};
-ghost use Rattle.rows.specs.Schemes.{entry_scheme, is_constraint, row_answer, row_scheme, Answered};
+ghost use Rattle.rows.specs.Schemes.{entry_scheme, row_answer, row_scheme, Answered};
 
 use crate::pattern::Pattern;
 use crate::row::{Entry, Row};
-use plan::{ChainFault, Parts, Plan, PlanFault};
+use plan::{ChainFault, Parts, Plan, PlanFault, constraint_fits};
 use std::alloc::Global;
-
-// The standard has two codes.
-fn is_constraint(constraint: usize) -> bool
-    ensures { result ≡ is_constraint constraint }
-{
-    constraint == 7 || constraint == 9
-}
 
 impl Row {
     // The plan of this row with a code of this constraint length. Its send list is new memory, which may be wanting.
@@ -27,7 +20,7 @@ impl Row {
         let Some(entry) = self.entry() else {
             return Err(ChainFault::Row);
         };
-        if !is_constraint(constraint) {
+        if !constraint_fits(constraint) {
             return Err(ChainFault::Plan(PlanFault::ConstraintLength));
         }
         Ok(Plan::new(parts_of(heap, entry, constraint)?)?)
