@@ -2,10 +2,9 @@
 ghost use Rattle.std.specs.Prelude.{◌≡◌, ◌&&◌, IfOk};
 ghost use Rattle.lines.specs.Faults.{line_number};
 ghost use Rattle.lines.specs.Plans.{size_fits, plan_line_answer};
-ghost use Rattle.plan.specs.Faults.{chain_number, outcome};
+ghost use Rattle.plan.specs.Faults.{outcome};
 ghost use Rattle.plan.specs.Parts.{scheme};
 ghost use Rattle.plan.specs.Plans.{plan_scheme};
-ghost use Rattle.plan.specs.Questions.{plan_answer};
 
 use crate::fault::LineFault;
 use plan::{ChainFault, Parts, Plan};
@@ -17,20 +16,12 @@ fn is_small(plan: &Plan) -> bool
     plan.parts().block_length <= 256 && plan.sent_length() <= 1024
 }
 
-// The plan with these parts, as the chain makes it.
-fn make_plan(parts: Parts) -> Result<Plan, ChainFault>
-    ensures answer { outcome chain_number result ≡ plan_answer (scheme parts) }
-    ensures made { IfOk result (λ p. plan_scheme p ≡ scheme parts) }
-{
-    Ok(Plan::new(parts)?)
-}
-
 // The plan with these parts, where it is small enough.
 pub fn accept_plan(parts: Parts) -> Result<Plan, LineFault>
     ensures answer { outcome line_number result ≡ plan_line_answer (scheme parts) }
     ensures made { IfOk result (λ p. plan_scheme p ≡ scheme parts) }
 {
-    let plan = make_plan(parts)?;
+    let plan = Plan::new(parts).map_err(ChainFault::from)?;
     if !is_small(&plan) {
         return Err(LineFault::Size);
     }

@@ -2,10 +2,9 @@
 ghost use Rattle.std.specs.Prelude.{◌≡◌};
 ghost use Rattle.lines.specs.Faults.{line_number};
 ghost use Rattle.lines.specs.declared.fault.LineFault.TheVariants.{Chain};
-ghost use Rattle.plan.specs.Faults.{plan_number, chain_number};
 ghost use Rattle.plan.specs.declared.fault.ChainFault.TheVariants.{OutOfMemory};
 
-use plan::{ChainFault, PlanFault};
+use plan::ChainFault;
 use std::alloc::{AllocError, AllocFailed};
 
 #[derive(Clone, Copy)]
@@ -43,36 +42,17 @@ impl<T: Drop> From<AllocFailed<T>> for LineFault {
     }
 }
 
-fn plan_number(fault: PlanFault) -> u8
-    ensures { result ≡ plan_number fault }
-{
-    match fault {
-        PlanFault::ConstraintLength => 1,
-        PlanFault::Period => 2,
-        PlanFault::Entry => 3,
-        PlanFault::BlockLength => 4,
-        PlanFault::SentLength => 5,
-        PlanFault::SymbolBits => 6,
-        PlanFault::FrameLength => 7,
-        PlanFault::Increment => 8,
-    }
-}
+// A carried fault has its own number.
+impl From<LineFault> for u8 {
+    ghost from_gives = { λ fault number. number ≡ line_number fault };
 
-fn chain_number(fault: ChainFault) -> u8
-    ensures { result ≡ chain_number fault }
-{
-    match fault {
-        ChainFault::Plan(below) => plan_number(below),
-        ChainFault::Row => 9,
-        ChainFault::Scrambler => 10,
-        ChainFault::Fit => 11,
-        ChainFault::Block => 12,
-        ChainFault::TooShort => 13,
-        ChainFault::Place => 14,
-        ChainFault::Index => 15,
-        ChainFault::Mapping => 16,
-        ChainFault::Location => 17,
-        ChainFault::OutOfMemory => 255,
+    fn from(fault: LineFault) -> u8 {
+        match fault {
+            LineFault::Chain(below) => u8::from(below),
+            LineFault::Form => 18,
+            LineFault::Order => 19,
+            LineFault::Size => 20,
+        }
     }
 }
 
@@ -81,11 +61,6 @@ impl LineFault {
     pub fn number(self) -> u8
         ensures { result ≡ line_number self }
     {
-        match self {
-            LineFault::Chain(below) => chain_number(below),
-            LineFault::Form => 18,
-            LineFault::Order => 19,
-            LineFault::Size => 20,
-        }
+        u8::from(self)
     }
 }
