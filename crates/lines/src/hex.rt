@@ -6,7 +6,7 @@ ghost use Rattle.lines.specs.Readings.{HexReading};
 use crate::fault::LineFault;
 use std::alloc::{AllocError, Global};
 
-// The number that a digit stands for.
+// The number that a digit stands for. `char::to_digit` takes lower-case digits too.
 fn digit_value(digit: u8) -> Option<u8>
     ensures { MatchOption result ((n : ℕ) → n < 16 → hex_digit n ≢ digit) (λ n. (n < 16) × (hex_digit n ≡ digit)) }
 {
@@ -46,7 +46,7 @@ pub(crate) fn read_hex(heap: Global, text: &[u8]) -> Result<Vec<u8>, LineFault>
     }
 }
 
-// The digit of a number below 16.
+// The digit of a number below 16. `char::from_digit` gives lower-case digits.
 fn digit(number: u8) -> char
     requires { number < 16 }
     ensures value { result ≡ hex_digit number }

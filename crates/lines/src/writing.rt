@@ -1,49 +1,32 @@
 // An answer as text.
-ghost use Rattle.std.specs.Prelude.{◌≡◌, ◌+◌, ◌*◌, ◌^◌, ◌<◌, ◌≤◌, true, List, [], ◌∷◌, ◌++◌, length, is_ok, IfOk, string_bytes};
-ghost use Rattle.lines.specs.Answers.{bit_at, bits_number, bits_packed, letter, answer_bytes, answer_text};
+ghost use Rattle.std.specs.Prelude.{◌≡◌, ◌≤◌, true, List, [], ◌∷◌, ◌++◌, length, is_ok, IfOk, string_bytes};
+ghost use Rattle.lines.specs.Answers.{bits_number, bits_packed, letter, answer_bytes, answer_text};
 ghost use Rattle.lines.specs.Hex.{big_endian};
 
 use crate::answer::Answer;
 use crate::hex::write_hex;
 use std::alloc::{AllocError, Global};
 
-// The bit at a place of a block; past its end there are zeros.
-fn bit(block: &[u8], place: usize) -> u8
-    ensures { result ≡ bit_at block.now place }
-{
-    if place >= block.len() {
-        return 0;
-    }
-    if block[place] == 1 { 1 } else { 0 }
-}
-
-// A number with one bit more after it.
-fn append_bit(number: u8, bit: u8) -> u8
-    requires { (number < 128) × (bit ≤ 1) }
-    ensures { result ≡ 2 * number + bit }
-{
-    2 * number + bit
-}
-
-// The byte that eight bits from a place on write.
-fn octet(block: &[u8], place: usize) -> u8
-    requires { place < 2 ^ 63 }
-    ensures { result ≡ bits_number block.now place 8 }
+// The byte that at most eight bits write, the first highest. Where there are fewer, zeros follow.
+fn octet(bits: &[u8]) -> u8
+    requires { length bits.now ≤ 8 }
+    ensures { result ≡ bits_number bits.now 0 8 }
 {
     let mut number = 0;
-    for i in 0..8 {
-        number = append_bit(number, bit(block, place + i));
+    for (i, bit) in bits.iter().enumerate() {
+        if *bit == 1 {
+            number += 0x80 >> i;
+        }
     }
     number
 }
 
 // Appends a block's bits, eight a byte.
 fn pack(block: &[u8], bytes: &mut Vec<u8>) -> Result<(), AllocError>
-    requires { length block.now < 2 ^ 63 }
     ensures { is_ok result ≡ true → bytes.new.items ≡ bytes.old.items ++ bits_packed block.now }
 {
-    for i in 0..block.len().div_ceil(8) {
-        bytes.push(octet(block, 8 * i))?;
+    for bits in block.chunks(8) {
+        bytes.push(octet(bits))?;
     }
     Ok(())
 }
@@ -76,7 +59,6 @@ fn refusal_bytes(number: u8, line: u16) -> [u8; 3]
 
 // A score, and a block's bits after it.
 fn shown_bytes(heap: Global, score: u64, block: &[u8]) -> Result<Vec<u8>, AllocError>
-    requires { length block.now < 2 ^ 63 }
     ensures { IfOk result (λ v. v.items ≡ big_endian 8 score ++ bits_packed block.now) }
 {
     let mut bytes = Vec::from_slice(heap, &score_bytes(score))?;

@@ -1,16 +1,18 @@
-use Rattle.std.proofs.Common.{◌+◌, ◌*◌, ◌≤◌, sym, ap, ◌∙◌, add-one, arith}
-use Rattle.lines.specs.Answers.{bits_number}
-use Rattle.lines.proofs.Written.{bit_le, bits_small}
+use Rattle.std.proofs.Common.{◌<◌, ◌≤◌, ◌∙◌, arith}
+use Rattle.lines.proofs.Written.{filled_room, filled_one, filled_none, filled_all}
 use Rattle.lines.proofs.writing.octet.Goals as goal
+use Rattle.lines.proofs.writing.octet.Goals.{then-bit-eq1, else-bit-eq1}
 
-pub append_bit-number-requires : goal.append_bit-number-requires
-append_bit-number-requires c =
-    let block = c.args.block.now in
-    let few : c.loop-i.i ≤ 7 = omega arith in
-    (omega (arith, c.loop-i.invariant, bits_small block c.args.place c.loop-i.i few), omega (arith, c.bit.ensures, bit_le block (c.args.place + c.loop-i.i)))
+pub overflow_add-number : goal.overflow_add-number
+overflow_add-number c = let few : c.loop-i.i < 8 = omega arith in omega (arith, c.loop-i.invariant, filled_room c.args.bits.now c.loop-i.i few)
 
 pub loop-i-preserved : goal.loop-i-preserved
 loop-i-preserved c =
-    let block = c.args.block.now in
-    c.append_bit-number.ensures ∙ (λ x. 2 * c.loop-i.invariant x + c.bit.ensures x)
-    ∙ ap (bits_number block c.args.place) (sym (add-one c.loop-i.i))
+    let few : c.loop-i.i < 8 = omega arith in
+    elim c.if-bit-eq1.branch [
+      | then-bit-eq1 w ↦ omega (arith, w.number-is, c.loop-i.invariant, filled_one c.args.bits.now c.loop-i.i few w.if-bit-eq1.true)
+      | else-bit-eq1 w ↦ omega (arith, w.number-is, c.loop-i.invariant, filled_none c.args.bits.now c.loop-i.i few w.if-bit-eq1.false)
+    ]
+
+pub returns : goal.returns
+returns c = let all : c.loop-i.i ≤ 8 = omega arith in c.loop-i.invariant ∙ filled_all c.args.bits.now c.loop-i.i c.loop-i-test.false all

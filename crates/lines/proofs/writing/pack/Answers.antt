@@ -1,18 +1,22 @@
-use Rattle.std.proofs.Common.{◌≡◌, ℕ, ◌+◌, ◌*◌, ◌/◌, [], ◌∷◌, ◌++◌, map, length, vec_items, sym, ap, ◌∙◌, append_assoc, arith}
-use Rattle.std.specs.List.{range_with_len}
-use Rattle.std.proofs.lemmas.List.FromFn.{map-range_with_len_more}
-use Rattle.lines.specs.Answers.{bits_number}
+use Rattle.std.proofs.Common.{◌≡◌, ◌<◌, [], ◌∷◌, ◌++◌, min, length, vec_items, sym, ap, ◌∙◌, append_assoc, rules}
+use Rattle.std.specs.Slice.Iter.{chunks_rest}
+use Rattle.lines.specs.Answers.{bits_number, bits_packed}
+use Rattle.lines.proofs.Written.{packed_more}
 use Rattle.lines.proofs.writing.pack.Goals as goal
 
-pub loop-i-preserved : goal.loop-i-preserved
-loop-i-preserved c =
-    let was = vec_items c.args.bytes.now in
-    let i = c.loop-i.i in
-    let f : ℕ → ℕ = λ n. bits_number c.args.block.now (8 * n) 8 in
-    c.in_ok-push.ensures.items ∙ (λ x. c.loop-i.invariant x ++ (c.octet.ensures x ∷ []))
-    ∙ append_assoc was (map f (range_with_len 0 i)) (f i ∷ []) ∙ ap (λ l. was ++ l) (sym (map-range_with_len_more f 0 i i (omega arith)))
-
-pub returns : goal.returns
-returns c = λ _.
-    let all : c.loop-i.i ≡ (length c.args.block.now + 7) / 8 = omega (arith, c.div_ceil-i-end.ensures, c.loop-i-test.false) in
-    c.loop-i.invariant ∙ ap (λ n. vec_items c.args.bytes.now ++ map (λ (k : ℕ). bits_number c.args.block.now (8 * k) 8) (range_with_len 0 n)) all
+pub loop-bits-preserved : goal.loop-bits-preserved
+loop-bits-preserved c =
+    let was = vec_items c.loop-bits.bytes in
+    let bits = c.in-Some.bits.now in
+    let rest = chunks_rest c.next.new.self in
+    let parted : chunks_rest c.loop-bits.bits-iterator ≡ bits ++ rest = search rules in
+    let long : length bits ≡ min 8 (length (bits ++ rest)) = rw (sym parted, sym c.loop-bits.invariant.eight) (search rules) in
+    let some : 0 < length (bits ++ rest) = rw (sym parted) (search rules) in
+    let pushed : vec_items c.push.new.self ≡ was ++ (bits_number bits 0 8 ∷ []) = c.in_ok-push.ensures.items ∙ ap (λ n. was ++ (n ∷ [])) c.octet.ensures in
+    record {
+      eight = search rules;
+      packed =
+          ap (λ l. l ++ bits_packed rest) pushed ∙ append_assoc was (bits_number bits 0 8 ∷ []) (bits_packed rest)
+          ∙ ap (λ l. was ++ l) (sym (packed_more bits rest long some)) ∙ ap (λ l. was ++ bits_packed l) (sym parted)
+          ∙ c.loop-bits.invariant.packed;
+    }

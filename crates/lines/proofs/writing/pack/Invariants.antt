@@ -1,8 +1,11 @@
-use Rattle.std.proofs.Common.{◌≡◌, ◌*◌, ◌++◌, map, vec_items}
-use Rattle.std.specs.List.{range_with_len}
-use Rattle.lines.specs.Answers.{bits_number}
+use Rattle.std.proofs.Common.{◌≡◌, ◌++◌, vec_items}
+use Rattle.std.specs.Slice.Iter.{chunks_rest, chunks_size}
+use Rattle.lines.specs.Answers.{bits_packed}
 use Rattle.lines.proofs.writing.pack.Given as goal
 
--- the first i bytes are appended
-abbrev pub invariant-loop-i : goal.invariant-loop-i
-invariant-loop-i l = vec_items l.bytes ≡ vec_items l.initial.bytes ++ map (λ i. bits_number l.block (8 * i) 8) (range_with_len 0 l.i)
+-- the bytes so far, and those of what is left of the block, are appended
+abbrev pub invariant-loop-bits : goal.invariant-loop-bits
+invariant-loop-bits l = record {
+  eight : chunks_size l.bits-iterator ≡ 8;
+  packed : vec_items l.bytes ++ bits_packed (chunks_rest l.bits-iterator) ≡ vec_items l.initial.bytes ++ bits_packed l.block;
+}
