@@ -1,9 +1,11 @@
 // A block of lines for each bandwidth: its waveforms, and what its columns add up to.
+ghost use Rattle.std.specs.Prelude.{◌≤◌};
+
 use rows::{Entry, Row};
 use std::io;
 
 // What the columns of a bandwidth's table add up to.
-#[derive(Clone, Copy)]
+#[derive(Clone, Copy, Default)]
 struct Sums {
     rows: usize,
     frames: usize,
@@ -13,16 +15,6 @@ struct Sums {
 }
 
 impl Sums {
-    fn none() -> Sums {
-        Sums {
-            rows: 0,
-            frames: 0,
-            sent: 0,
-            block: 0,
-            increment: 0,
-        }
-    }
-
     fn add(&mut self, entry: Entry) {
         self.rows = self.rows.saturating_add(1);
         self.frames = self.frames.saturating_add(entry.frames);
@@ -44,27 +36,33 @@ pub fn print_bands(rt: &HostRuntime) -> io::Result<()> {
 
 // How many rows there are, also under numbers that no waveform and no interleaver has.
 fn rows_of(bandwidth: usize) -> usize {
-    let mut rows = 0usize;
+    let mut rows = 0;
     for waveform in 0..32 {
-        for interleaver in 0..8 {
-            if let Some(_) = (Row {
+        rows += interleavers_of(bandwidth, waveform);
+    }
+    rows
+}
+
+// How many rows a waveform has.
+fn interleavers_of(bandwidth: usize, waveform: usize) -> usize
+    ensures { result ≤ 8 }
+{
+    (0..8)
+        .filter_map(|interleaver| {
+            (Row {
                 bandwidth,
                 waveform,
                 interleaver,
             })
             .entry()
-            {
-                rows = rows.saturating_add(1);
-            }
-        }
-    }
-    rows
+        })
+        .count()
 }
 
 fn print_band(rt: &HostRuntime, bandwidth: usize) -> io::Result<()> {
     let all = rows_of(bandwidth);
     println!(rt; "{bandwidth} kHz, {all} rows")?;
-    let mut sums = Sums::none();
+    let mut sums = Sums::default();
     for waveform in 1..14 {
         print_waveform(rt, bandwidth, waveform, &mut sums)?;
     }
