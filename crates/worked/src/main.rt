@@ -3,18 +3,16 @@
 
 use code::{location, symbol_for};
 use plan::Plan;
-use rows::Row;
-use std::alloc::Global;
+use rows::{Entry, Row};
 use std::io;
 
-// The plan of a row at 3 kHz with the shortest interleaver and constraint length 7.
-fn plan_of(heap: Global, waveform: usize) -> Option<Plan> {
-    let row = Row {
-        bandwidth: 3,
-        waveform,
-        interleaver: 0,
-    };
-    row.plan(heap, 7).ok()
+// What is printed of a waveform.
+#[derive(Clone, Copy)]
+enum Example {
+    Locations,
+    SendList,
+    // the symbol of these bits
+    Symbol(u8),
 }
 
 // Where the first nine sent bits are loaded.
@@ -27,38 +25,52 @@ fn print_locations(rt: &HostRuntime, plan: &Plan) -> io::Result<()> {
     println!(rt; "")
 }
 
-// Which coded bits of a period are sent.
-fn print_list(rt: &HostRuntime, rate: &str, plan: &Plan) -> io::Result<()> {
+// Which coded bits of a period are sent: one line's loop, too little to share with another program's list.
+fn print_list(rt: &HostRuntime, row: Row, plan: &Plan) -> io::Result<()> {
+    if let Some(Entry { rate, .. }) = row.entry() {
+        print!(rt; "rate {rate}: ")?;
+    }
     let period = plan.parts().period;
-    print!(rt; "rate {rate}: period {period}, sends")?;
+    print!(rt; "period {period}, sends")?;
     for entry in plan.parts().send_list.iter() {
         print!(rt; " {entry}")?;
     }
     println!(rt; "")
 }
 
-fn print_symbol(rt: &HostRuntime, bits: &str, number: u8, plan: &Plan) -> io::Result<()> {
+fn print_symbol(rt: &HostRuntime, number: u8, plan: &Plan) -> io::Result<()> {
+    let bits = plan.parts().symbol_bits;
     let symbol = symbol_for(plan, number);
-    println!(rt; "{bits} is symbol {symbol}")
+    println!(rt; "{number:0bits$b} is symbol {symbol}")
 }
 
-fn print_waveform(rt: &HostRuntime, waveform: usize, plan: &Plan) -> io::Result<()> {
-    match waveform {
-        1 => print_locations(rt, plan),
-        2 => print_list(rt, "1/4", plan),
-        3 => print_list(rt, "1/3", plan),
-        5 => print_list(rt, "3/4", plan),
-        8 => print_symbol(rt, "0111", 0b0111, plan),
-        _ => print_symbol(rt, "100011", 0b10_0011, plan),
+// The row at 3 kHz with the shortest interleaver, and constraint length 7.
+fn print_example(rt: &HostRuntime, waveform: usize, example: Example) -> io::Result<()> {
+    let row = Row {
+        bandwidth: 3,
+        waveform,
+        interleaver: 0,
+    };
+    let Ok(plan) = row.plan(rt.alloc(), 7) else {
+        return println!(rt; "waveform {waveform} is refused");
+    };
+    match example {
+        Example::Locations => print_locations(rt, &plan),
+        Example::SendList => print_list(rt, row, &plan),
+        Example::Symbol(number) => print_symbol(rt, number, &plan),
     }
 }
 
 fn main(rt: HostRuntime) -> io::Result<()> {
-    for waveform in [1, 2, 3, 5, 8, 10] {
-        match plan_of(rt.alloc(), waveform) {
-            Some(plan) => print_waveform(&rt, waveform, &plan)?,
-            None => println!(rt; "waveform {waveform} is refused")?,
-        }
+    for (waveform, example) in [
+        (1, Example::Locations),
+        (2, Example::SendList),
+        (3, Example::SendList),
+        (5, Example::SendList),
+        (8, Example::Symbol(0b0111)),
+        (10, Example::Symbol(0b10_0011)),
+    ] {
+        print_example(&rt, waveform, example)?;
     }
     Ok(())
 }
