@@ -1,24 +1,11 @@
 -- Texts and numbers as they are written, one piece after another.
 -- Assumes nothing.
-use Rattle.std.proofs.Common.{◌≡◌, ℕ, zero, suc, ◌+◌, ◌-◌, ◌*◌, ◌/◌, ◌^◌, ◌<◌, ◌≤◌, Bool, true, false, cond, eqb, min, List, [], ◌∷◌, ◌++◌, length, get_or, take, sym, refl, ap, ◌∙◌, append_assoc, append-nil, arith, length-append, ◌≢◌, ⊎_elim}
+use Rattle.std.proofs.Common.{◌≡◌, ℕ, zero, suc, ◌+◌, ◌-◌, ◌*◌, ◌/◌, ◌^◌, ◌<◌, ◌≤◌, Bool, true, false, cond, eqb, min, List, [], ◌∷◌, ◌++◌, length, get_or, sym, refl, ap, ◌∙◌, append-nil, arith, length-append, ◌≢◌, ⊎_elim}
 use Rattle.std.proofs.lemmas.Bool.{cases_lt}
 use Rattle.std.proofs.lemmas.Bool.Decides.{nat_tests}
-use Rattle.std.proofs.lemmas.List.{take_more, get_or_past, get_or_append_left, get_or-append-add, nil_from_length}
+use Rattle.std.proofs.lemmas.List.{get_or_past, get_or_append_left, get_or-append-add, nil_from_length}
 use Rattle.std.proofs.lemmas.List.FromFn.{length-map-range_with_len, get_or-map-range_with_len, fill_by_all}
 use Rattle.lines.specs.Answers.{bit_at, bits_number, bits_packed}
-use Rattle.lines.specs.Hex.{hex}
-use Rattle.lines.proofs.Digits.{hex_append}
-
--- two characters, one after the other
-pub two_pushed : (was mid all e f : List ℕ) (a b x y : ℕ) → mid ≡ was ++ e → e ≡ a ∷ [] → a ≡ x → all ≡ mid ++ f → f ≡ b ∷ [] → b ≡ y → all ≡ was ++ (x ∷ y ∷ [])
-two_pushed was mid all e f a b x y m p h n q k =
-    n ∙ (λ i. m i ++ q i) ∙ (λ i. (was ++ p i) ++ (k i ∷ [])) ∙ append_assoc was (a ∷ []) (y ∷ []) ∙ ap (λ c. was ++ (c ∷ y ∷ [])) h
-
--- the digits of one byte more
-pub hex_pushed : (was mid all bytes : List ℕ) (i : ℕ) → i < length bytes → mid ≡ was ++ hex (take i bytes) → all ≡ mid ++ hex (get_or bytes i 0 ∷ []) → all ≡ was ++ hex (take (i + 1) bytes)
-hex_pushed was mid all bytes i h m n =
-    n ∙ ap (λ l. l ++ hex (get_or bytes i 0 ∷ [])) m ∙ append_assoc was (hex (take i bytes)) (hex (get_or bytes i 0 ∷ []))
-    ∙ ap (λ l. was ++ l) (sym (hex_append (take i bytes) (get_or bytes i 0 ∷ []))) ∙ ap (λ l. was ++ hex l) (sym (take_more bytes i 0 h))
 
 cond_le : (b : Bool) → cond b 1 0 ≤ 1
 cond_le true = omega arith

@@ -1,10 +1,11 @@
 // Bytes as upper-case hexadecimal text, two digits a byte.
-ghost use Rattle.std.specs.Prelude.{◌≡◌, ℕ, ◌/◌, ◌%◌, ◌<◌, true, List, [], ◌∷◌, ◌++◌, is_ok, string_bytes, MatchOption, ◌≢◌};
+ghost use Rattle.std.specs.Prelude.{◌≡◌, ℕ, ◌<◌, [], ◌∷◌, Some, MatchOption, ◌≢◌};
 ghost use Rattle.lines.specs.Hex.{hex_digit, hex};
 ghost use Rattle.lines.specs.Readings.{HexReading};
 
 use crate::fault::LineFault;
-use std::alloc::{AllocError, Global};
+use std::alloc::Global;
+use std::fmt;
 
 // The number that a digit stands for. `char::to_digit` takes lower-case digits too.
 fn digit_value(digit: u8) -> Option<u8>
@@ -46,33 +47,17 @@ pub(crate) fn read_hex(heap: Global, text: &[u8]) -> Result<Vec<u8>, LineFault>
     }
 }
 
-// The digit of a number below 16. `char::from_digit` gives lower-case digits.
-fn digit(number: u8) -> char
-    requires { number < 16 }
-    ensures value { result ≡ hex_digit number }
-    ensures ascii { result < 128 }
-{
-    char::from(if number < 10 {
-        b'0' + number
-    } else {
-        b'A' + (number - 10)
-    })
-}
+// Bytes, as two digits each.
+#[derive(Clone, Copy)]
+pub(crate) struct Hex<'a>(pub(crate) &'a [u8]);
 
-// Appends the two digits of a byte.
-fn write_byte(byte: u8, text: &mut String) -> Result<(), AllocError>
-    ensures { is_ok result ≡ true → string_bytes text.new ≡ string_bytes text.old ++ hex (byte ∷ []) }
-{
-    text.push(digit(byte / 16))?;
-    text.push(digit(byte % 16))
-}
+impl fmt::Display for Hex<'_> {
+    ghost output = { λ h. Some (hex h.0.now) };
 
-// Appends the digits of bytes.
-pub(crate) fn write_hex(bytes: &[u8], text: &mut String) -> Result<(), AllocError>
-    ensures { is_ok result ≡ true → string_bytes text.new ≡ string_bytes text.old ++ hex bytes.now }
-{
-    for byte in bytes {
-        write_byte(*byte, text)?;
+    fn fmt<W: fmt::Write>(&self, f: &mut fmt::Formatter<W>) -> fmt::Result {
+        for &byte in self.0 {
+            write!(f, "{byte:02X}")?;
+        }
+        Ok(())
     }
-    Ok(())
 }

@@ -1,11 +1,28 @@
 // An answer as text.
-ghost use Rattle.std.specs.Prelude.{◌≡◌, ◌≤◌, true, List, [], ◌∷◌, ◌++◌, length, is_ok, IfOk, string_bytes};
-ghost use Rattle.lines.specs.Answers.{bits_number, bits_packed, letter, answer_bytes, answer_text};
-ghost use Rattle.lines.specs.Hex.{big_endian};
+ghost use Rattle.std.specs.Prelude.{◌≡◌, ◌≤◌, ◌++◌, Some, length, IfOk, string_bytes};
+ghost use Rattle.lines.specs.Answers.{bits_number, bits_packed, answer_text};
+ghost use Rattle.lines.specs.Hex.{hex, big_endian};
 
 use crate::answer::Answer;
-use crate::hex::write_hex;
+use crate::hex::Hex;
 use std::alloc::{AllocError, Global};
+use std::fmt;
+
+// A block's bits, eight a byte.
+#[derive(Clone, Copy)]
+struct Packed<'a>(&'a [u8]);
+
+impl fmt::Display for Packed<'_> {
+    ghost output = { λ p. Some (hex (bits_packed p.0.now)) };
+
+    fn fmt<W: fmt::Write>(&self, f: &mut fmt::Formatter<W>) -> fmt::Result {
+        for bits in self.0.chunks(8) {
+            let byte = octet(bits);
+            write!(f, "{byte:02X}")?;
+        }
+        Ok(())
+    }
+}
 
 // The byte that at most eight bits write, the first highest. Where there are fewer, zeros follow.
 fn octet(bits: &[u8]) -> u8
@@ -19,27 +36,6 @@ fn octet(bits: &[u8]) -> u8
         }
     }
     number
-}
-
-// Appends a block's bits, eight a byte.
-fn pack(block: &[u8], bytes: &mut Vec<u8>) -> Result<(), AllocError>
-    ensures { is_ok result ≡ true → bytes.new.items ≡ bytes.old.items ++ bits_packed block.now }
-{
-    for bits in block.chunks(8) {
-        bytes.push(octet(bits))?;
-    }
-    Ok(())
-}
-
-// The first character of an answer.
-fn letter_of(answer: &Answer) -> char
-    ensures { result ≡ letter answer.now }
-{
-    match answer {
-        Answer::Accepted => 'A',
-        Answer::Shown { .. } => 'L',
-        Answer::Refused { .. } => 'R',
-    }
 }
 
 // A score in eight bytes.
@@ -57,23 +53,25 @@ fn refusal_bytes(number: u8, line: u16) -> [u8; 3]
     [number, high, low]
 }
 
-// A score, and a block's bits after it.
-fn shown_bytes(heap: Global, score: u64, block: &[u8]) -> Result<Vec<u8>, AllocError>
-    ensures { IfOk result (λ v. v.items ≡ big_endian 8 score ++ bits_packed block.now) }
-{
-    let mut bytes = Vec::from_slice(heap, &score_bytes(score))?;
-    pack(block, &mut bytes)?;
-    Ok(bytes)
-}
+// A letter, and then digits up to the line feed.
+impl fmt::Display for Answer {
+    ghost output = { λ answer. Some (answer_text answer) };
 
-// What follows the first character, before it is written as digits.
-fn bytes_of(heap: Global, answer: &Answer) -> Result<Vec<u8>, AllocError>
-    ensures { IfOk result (λ v. v.items ≡ answer_bytes answer.now) }
-{
-    match answer {
-        Answer::Accepted => Ok(Vec::new(heap)),
-        Answer::Shown { score, block } => shown_bytes(heap, *score, block.as_slice()),
-        Answer::Refused { number, line } => Vec::from_slice(heap, &refusal_bytes(*number, *line)),
+    fn fmt<W: fmt::Write>(&self, f: &mut fmt::Formatter<W>) -> fmt::Result {
+        match self {
+            Answer::Accepted => f.write_str("A\n"),
+            Answer::Shown { score, block } => {
+                let score = score_bytes(*score);
+                let score = Hex(&score);
+                let block = Packed(block.as_slice());
+                write!(f, "L{score}{block}\n")
+            }
+            Answer::Refused { number, line } => {
+                let bytes = refusal_bytes(*number, *line);
+                let bytes = Hex(&bytes);
+                write!(f, "R{bytes}\n")
+            }
+        }
     }
 }
 
@@ -81,10 +79,5 @@ fn bytes_of(heap: Global, answer: &Answer) -> Result<Vec<u8>, AllocError>
 pub fn answer_text(heap: Global, answer: &Answer) -> Result<String, AllocError>
     ensures { IfOk result (λ t. string_bytes t ≡ answer_text answer.now) }
 {
-    let bytes = bytes_of(heap, answer)?;
-    let mut text = String::new(heap);
-    text.push(letter_of(answer))?;
-    write_hex(bytes.as_slice(), &mut text)?;
-    text.push('\n')?;
-    Ok(text)
+    format!(in heap; "{answer}")
 }
