@@ -11,7 +11,7 @@ use std::alloc::{AllocError, Global};
 // One more byte than a command's line may have.
 const KEPT: usize = 2081;
 
-// The first bytes of a line, enough to see whether it is too long.
+// The first bytes of a line, enough to see whether it is too long. Clauses name the field, since a view could be no more than it.
 #[derive(Drop)]
 pub struct Line {
     kept: Vec<u8>,

@@ -23,6 +23,7 @@ fn band(bandwidth: usize) -> Option<usize>
 // The bits of a symbol for the waveforms 1 to 13.
 static SYMBOL_BITS: [usize; 13] = [1, 1, 1, 1, 1, 2, 3, 4, 5, 6, 6, 8, 2];
 
+// By index: a test could only fail where the table has no setting, and it has been asked for one before.
 fn symbol_bits(waveform: usize) -> usize
     requires { (1 ≤ waveform) × (waveform ≤ 13) }
     ensures { result ≡ symbol_bits waveform }
