@@ -2,6 +2,8 @@
 -- Assumes nothing.
 use Rattle.std.proofs.Common.{◌≡◌, ℕ, zero, suc, ◌+◌, ◌-◌, ◌^◌, ◌<◌, ◌≤◌, Bool, true, false, cond, ◌&&◌, eqb, ltb, leb, List, [], ◌∷◌, length, get_or, Some, None, Option, sym, refl, ap, ◌∙◌, subst, ⊎_elim, arith}
 use native.Mathlib.Nat.{sub-zero}
+use Rattle.std.specs.List.{position}
+use Rattle.std.proofs.lemmas.Iterator.Adapters.{position_from-zero}
 use Rattle.std.proofs.lemmas.Bool.{and_parts, cases_Bool, cases_lt, cond-true, cond-false, eqb-true, le-leb, lt-leb, lt-ltb, le-ltb}
 use Rattle.code.specs.Laws.{Inverts}
 use Rattle.code.specs.Mapping.{phases, place_from, symbol_of, number_of}
@@ -65,6 +67,10 @@ number_low q y h = cond-true (leb q 3) (place_from y 0 (phases q)) _ (le-leb q 3
 pub number_high : (q y : ℕ) → 3 < q → number_of q y ≡ cond (ltb y (2 ^ q)) (Some y) None
 unfolding number_of
 number_high q y h = cond-false (leb q 3) (place_from y 0 (phases q)) _ (lt-leb q 3 h)
+
+-- the first place at which a symbol stands in the list of phases
+pub number_placed : (q y : ℕ) (list : List ℕ) (r : Option ℕ) → q ≤ 3 → list ≡ phases q → r ≡ position (λ x. eqb x y) list → r ≡ number_of q y
+number_placed q y list r h e p = p ∙ ap (position (λ x. eqb x y)) e ∙ position_from-zero (λ x. eqb x y) (phases q) ∙ sym (number_low q y h)
 
 -- by the list of phases, which has 2 to the power q places, each found again
 inverts_low : (q : ℕ) → q ≤ 3 → length (phases q) ≡ 2 ^ q → undone (phases q) (2 ^ q) ≡ true → Inverts q

@@ -1,6 +1,6 @@
 -- Windows as numbers: their bits, and the parities that the generators' masks give.
 -- Assumes nothing.
-use Rattle.std.proofs.Common.{◌≡◌, ℕ, zero, suc, ◌+◌, ◌-◌, ◌*◌, ◌/◌, ◌%◌, ◌^◌, ◌<◌, Bool, true, false, not, ◌&&◌, eqb, ltb, ◌⊎◌, List, [], ◌∷◌, sym, refl, ap, ◌∙◌, subst, inl, inr, ⊎_elim, mod-lt, div-one, add-one, arith, lit<, pow_pos}
+use Rattle.std.proofs.Common.{◌≡◌, ℕ, zero, suc, ◌+◌, ◌-◌, ◌*◌, ◌/◌, ◌%◌, ◌^◌, ◌<◌, Bool, true, false, cond, not, ◌&&◌, eqb, ltb, ◌⊎◌, List, [], ◌∷◌, sym, refl, ap, ◌∙◌, subst, inl, inr, ⊎_elim, mod-lt, div-one, add-one, arith, lit<, pow_pos}
 use native.Mathlib.Nat.{mod-mod, pow-succ'}
 use lib.Bits.{bit_and, and_zero_l, and_zero_r}
 use lib.Count.{ones, ones_step}
@@ -162,13 +162,18 @@ second_9 : (w : ℕ) → eqb (ones (bit_and w 431) % 2) 1 ≡ sum_at (bit_of 9 w
 unfolding odd below agrees same masked
 second_9 w = mask_sum 9 (second_taps 9) 431 (lit< tt) refl refl w
 
--- two parities by mask are the pair of the window
-module _ (k w : ℕ) (a b : Bool) where
-  pub pair_7 : k ≡ 7 → a ≡ eqb (ones (bit_and w 109) % 2) 1 → b ≡ eqb (ones (bit_and w 79) % 2) 1 → ◌≡◌ {A = Bool × Bool} (a, b) (pair k (bit_of k w))
-  pair_7 e p q = (λ i. ((p ∙ first_7 w) i, (q ∙ second_7 w) i)) ∙ ap (λ n. pair n (bit_of n w)) (sym e)
-
-  pub pair_9 : k ≡ 9 → a ≡ eqb (ones (bit_and w 285) % 2) 1 → b ≡ eqb (ones (bit_and w 431) % 2) 1 → ◌≡◌ {A = Bool × Bool} (a, b) (pair k (bit_of k w))
-  pair_9 e p q = (λ i. ((p ∙ first_9 w) i, (q ∙ second_9 w) i)) ∙ ap (λ n. pair n (bit_of n w)) (sym e)
+-- the parities by a code's two generators are the pair of the window
+pub pair_by_masks : (k w : ℕ) (masks : ℕ × ℕ) (a b : Bool) → (k ≡ 7) ⊎ (k ≡ 9) → masks ≡ cond (eqb k 7) (109, 79) (285, 431)
+    → a ≡ eqb (ones (bit_and w masks.0) % 2) 1 → b ≡ eqb (ones (bit_and w masks.1) % 2) 1 → ◌≡◌ {A = Bool × Bool} (a, b) (pair k (bit_of k w))
+pair_by_masks k w masks a b h m p q =
+    ⊎_elim
+    (λ e. let known : masks ≡ (109, 79) = m ∙ ap (λ n. cond (eqb n 7) (109, 79) (285, 431)) e in
+    (λ i. ((p ∙ ap (λ n. eqb (ones (bit_and w n.0) % 2) 1) known ∙ first_7 w) i, (q ∙ ap (λ n. eqb (ones (bit_and w n.1) % 2) 1) known ∙ second_7 w) i))
+    ∙ ap (λ n. pair n (bit_of n w)) (sym e))
+    (λ e. let known : masks ≡ (285, 431) = m ∙ ap (λ n. cond (eqb n 7) (109, 79) (285, 431)) e in
+    (λ i. ((p ∙ ap (λ n. eqb (ones (bit_and w n.0) % 2) 1) known ∙ first_9 w) i, (q ∙ ap (λ n. eqb (ones (bit_and w n.1) % 2) 1) known ∙ second_9 w) i))
+    ∙ ap (λ n. pair n (bit_of n w)) (sym e))
+    h
 
 -- the pair of a window's number is the pair of its bits
 same_taps : (f : ℕ → Bool) (n t : ℕ) (taps : List ℕ) → all_below n taps ≡ true → AllByRecursion (λ i. bit_of n (num f n t) i ≡ f (t + i)) taps

@@ -1,6 +1,7 @@
 -- From the interleaver array to symbols, and back to bits.
 -- Assumes nothing.
 use Rattle.std.specs.Prelude.{ℕ, ◌+◌, ◌*◌, ◌^◌, Bool, cond, List, [], ◌∷◌, Some, None, Option, ◌==◌, nat_le, nat_lt, slice_index}
+use Rattle.std.specs.List.{position_from}
 use Rattle.plan.specs.Scheme.{Scheme}
 use Rattle.code.specs.Numbers.{num, read}
 
@@ -14,8 +15,7 @@ symbol_of q x = cond (nat_le q 3) (slice_index (phases q) x) x
 
 -- the first place at which y stands, the list's first place being i
 abbrev pub place_from : ℕ → ℕ → List ℕ → Option ℕ
-place_from y i [] = None
-place_from y i (x ∷ xs) = cond (x == y) (Some i) (place_from y (i + 1) xs)
+place_from y = position_from (λ x. x == y)
 
 -- the number that a symbol's bits write, or none where no bits give this symbol
 unfoldable pub number_of : ℕ → ℕ → Option ℕ

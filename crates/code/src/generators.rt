@@ -1,5 +1,5 @@
 // The pair of coded bits of a window.
-ghost use Rattle.std.specs.Prelude.{◌≡◌, ◌%◌, ◌==◌, bit_and, count_ones};
+ghost use Rattle.std.specs.Prelude.{◌≡◌, ◌%◌, if◌then◌else◌, ◌==◌, bit_and, count_ones};
 ghost use Rattle.code.specs.Coding.{pair};
 ghost use Rattle.code.specs.Numbers.{bit_of};
 ghost use Rattle.plan.specs.Plans.{plan_scheme};
@@ -10,10 +10,18 @@ use plan::Plan;
 pub fn parity(plan: &Plan, window: u16) -> (bool, bool)
     ensures { result ≡ pair (plan_scheme plan.now).constraint (bit_of (plan_scheme plan.now).constraint window) }
 {
-    if plan.parts().constraint == 7 {
-        (is_odd(window, 0b110_1101), is_odd(window, 0b100_1111))
+    let (first, second) = generators(plan.parts().constraint);
+    (is_odd(window, first), is_odd(window, second))
+}
+
+// The two generators of a code of this constraint length: a one at each bit that is added.
+fn generators(constraint: usize) -> (u16, u16)
+    ensures { result ≡ (if constraint == 7 then (109, 79) else (285, 431)) }
+{
+    if constraint == 7 {
+        (0b110_1101, 0b100_1111)
     } else {
-        (is_odd(window, 0b1_0001_1101), is_odd(window, 0b1_1010_1111))
+        (0b1_0001_1101, 0b1_1010_1111)
     }
 }
 

@@ -15,11 +15,7 @@ pub fn location(plan: &Plan, n: usize) -> Option<usize>
     ensures value { result ≡ (if nat_lt n (sent_length (plan_scheme plan.now)) then Some (location_of (plan_scheme plan.now) n) else None) }
     ensures permutes { Permutes (plan_scheme plan.now) }
 {
-    if n < plan.sent_length() {
-        Some(location_below(plan, n))
-    } else {
-        None
-    }
+    (n < plan.sent_length()).then(|| location_below(plan, n))
 }
 
 fn location_below(plan: &Plan, n: usize) -> usize
@@ -38,7 +34,7 @@ pub fn load(plan: &Plan, word: &[bool], array: &mut [bool]) -> Result<(), ChainF
     if !are_long(plan, word.len(), array.len()) {
         return Err(ChainFault::TooShort);
     }
-    clear(array, plan.sent_length());
+    array[..plan.sent_length()].fill(false);
     load_runs(plan, word, array);
     Ok(())
 }
@@ -47,16 +43,6 @@ fn are_long(plan: &Plan, word: usize, array: usize) -> bool
     ensures { load_answer (plan_scheme plan.now) word array ≡ (if result then 0 else 13) }
 {
     word >= 2 * plan.parts().block_length && array >= plan.sent_length()
-}
-
-// Sets the first places to 0 bits.
-fn clear(array: &mut [bool], count: usize)
-    requires { count ≤ length array.old }
-    ensures { array.new ≡ replicate count false ++ drop count array.old }
-{
-    for i in 0..count {
-        array[i] = false;
-    }
 }
 
 // One run of the send list after the other.

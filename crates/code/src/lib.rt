@@ -5,6 +5,7 @@ mod encoder;
 mod generators;
 mod interleaver;
 mod mapping;
+mod numbers;
 
 pub use encoder::{encode, is_block};
 pub use generators::parity;

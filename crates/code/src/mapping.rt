@@ -1,13 +1,14 @@
 // From locations to symbols, and back to bits.
-ghost use Rattle.std.specs.Prelude.{◌≡◌, ◌+◌, ◌*◌, ◌/◌, ◌^◌, ◌<◌, ◌≤◌, length, IfOk, nat_lt, slice_index};
+ghost use Rattle.std.specs.Prelude.{◌≡◌, ◌+◌, ◌*◌, ◌/◌, ◌^◌, ◌<◌, ◌≤◌, length, IfOk, ◌==◌, nat_lt, position, slice_index};
 ghost use Rattle.code.specs.Answers.{fetch_answer};
 ghost use Rattle.code.specs.Laws.{Inverts};
-ghost use Rattle.code.specs.Mapping.{phases as phases_of, place_from, symbol_of, number_of, symbol_at};
-ghost use Rattle.code.specs.Numbers.{digit, num, read};
+ghost use Rattle.code.specs.Mapping.{phases as phases_of, symbol_of, number_of, symbol_at};
+ghost use Rattle.code.specs.Numbers.{num, read};
 ghost use Rattle.plan.specs.Faults.{chain_number, outcome};
 ghost use Rattle.plan.specs.Plans.{plan_scheme};
 ghost use Rattle.plan.specs.Scheme.{sent_length};
 
+use crate::numbers::append;
 use plan::{ChainFault, Plan};
 
 // The symbols of 1, 2 or 3 bits, in the order of the numbers that the bits write.
@@ -30,15 +31,7 @@ pub fn symbol_for(plan: &Plan, number: u8) -> u8
     if bits > 3 {
         return number;
     }
-    phase_at(phases(bits), number)
-}
-
-// What stands at a place of the list, and 0 past its end.
-fn phase_at(list: &[u8], place: u8) -> u8
-    ensures { result ≡ slice_index list.now place }
-{
-    let place = usize::from(place);
-    if place < list.len() { list[place] } else { 0 }
+    phases(bits).get(usize::from(number)).copied().unwrap_or(0)
 }
 
 // The number that a symbol's bits write, or none where no bits give this symbol.
@@ -47,13 +40,11 @@ pub fn number_for(plan: &Plan, symbol: u8) -> Option<u8>
     ensures inverts { Inverts (plan_scheme plan.now).bits }
 {
     let bits = plan.parts().symbol_bits;
-    if bits <= 3 {
-        place_in(phases(bits), symbol)
-    } else if has_bits(symbol, bits) {
-        Some(symbol)
-    } else {
-        None
+    if bits > 3 {
+        return has_bits(symbol, bits).then_some(symbol);
     }
+    let place = place_in(phases(bits), symbol)?;
+    Some(place as u8)
 }
 
 // Whether so many bits can write this number.
@@ -64,16 +55,10 @@ pub fn has_bits(number: u8, bits: usize) -> bool
 }
 
 // The first place at which the symbol stands.
-fn place_in(list: &[u8], symbol: u8) -> Option<u8>
-    requires { length list.now ≤ 8 }
-    ensures { result ≡ place_from symbol 0 list.now }
+fn place_in(list: &[u8], symbol: u8) -> Option<usize>
+    ensures { result ≡ position (λ x. x == symbol) list.now }
 {
-    for (i, phase) in list.iter().enumerate() {
-        if *phase == symbol {
-            return Some(i as u8);
-        }
-    }
-    None
+    list.iter().position(|phase| *phase == symbol)
 }
 
 // The symbol that takes the locations of this place, the first fetched on the left.
@@ -98,16 +83,8 @@ fn group(plan: &Plan, array: &[bool], place: usize) -> u8
     let bits = plan.parts().symbol_bits;
     let first = place * bits;
     let mut number = 0;
-    for i in 0..bits {
-        number = append(number, array[first + i]);
+    for bit in &array[first..first + bits] {
+        number = append(number, *bit);
     }
-    number
-}
-
-// The number with one more bit at its lowest place.
-fn append(number: u8, bit: bool) -> u8
-    requires { number < 128 }
-    ensures { result ≡ 2 * number + digit bit }
-{
-    2 * number + u8::from(bit)
+    number as u8
 }

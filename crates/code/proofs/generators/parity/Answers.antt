@@ -1,16 +1,13 @@
-use Rattle.std.proofs.Common.{◌≡◌, sym, ap, ◌∙◌, ⊎_elim}
+use Rattle.std.proofs.Common.{◌≡◌, ℕ, cond, eqb, ap, ◌∙◌}
 use Rattle.plan.specs.Plans.{plan_scheme}
 use Rattle.plan.proofs.Facts.{facts}
-use Rattle.code.proofs.Windows.{pair_7, pair_9}
+use Rattle.code.proofs.Windows.{pair_by_masks}
 use Rattle.code.proofs.generators.parity.Goals as goal
 
-pub returns-then-parts-eq7 : goal.returns-then-parts-eq7
-returns-then-parts-eq7 c =
-    let e : c.args.plan.now.parts.constraint ≡ 7 = ap (λ p. p.constraint) (sym c.parts.ensures) ∙ c.if-parts-eq7.true in
-    pair_7 _ c.args.window _ _ e c.is_odd.ensures c.is_odd-then-parts-eq7.ensures
-
-pub returns-else-parts-eq7 : goal.returns-else-parts-eq7
-returns-else-parts-eq7 c =
+pub returns : goal.returns
+returns c =
     let s = plan_scheme c.args.plan.now in
-    let e : s.constraint ≡ 9 = ⊎_elim (λ is. absurd (c.if-parts-eq7.false (ap (λ p. p.constraint) c.parts.ensures ∙ is))) (λ is. is) (facts s c.args.plan.now.accepted).constraint in
-    pair_9 _ c.args.window _ _ e c.is_odd-else-parts-eq7.ensures c.is_odd-else-parts-eq7-2.ensures
+    let k : c.parts.result.now.constraint ≡ s.constraint = ap (λ p. p.constraint) c.parts.ensures in
+    let masks : c.generators-first.result ≡ cond (eqb s.constraint 7) (109, 79) (285, 431) =
+    c.generators-first.ensures ∙ ap (λ n. cond (eqb n 7) (109, 79) (285, 431)) k in
+    pair_by_masks s.constraint c.args.window c.generators-first.result _ _ (facts s c.args.plan.now.accepted).constraint masks c.is_odd.ensures c.is_odd-2.ensures
