@@ -1,24 +1,19 @@
 -- A block's bits, and the windows that slide over them.
 -- Assumes nothing.
-use Rattle.std.proofs.Common.{◌≡◌, ℕ, zero, suc, ◌+◌, ◌-◌, ◌*◌, ◌%◌, ◌^◌, ◌<◌, ◌≤◌, Bool, true, false, eqb, ltb, List, [], ◌∷◌, length, get_or, sym, refl, ap, ◌∙◌, add-zero, mod-eq_of_lt, mul_left_comm, add-one, arith, pow_mono}
+use Rattle.std.proofs.Common.{◌≡◌, ℕ, zero, suc, ◌+◌, ◌-◌, ◌*◌, ◌%◌, ◌^◌, ◌<◌, ◌≤◌, Bool, true, false, eqb, ltb, List, [], ◌∷◌, length, get_or, sym, ap, ◌∙◌, add-zero, mod-eq_of_lt, mul_left_comm, add-one, arith, pow_mono}
 use native.Mathlib.Nat.{pow-succ', add-mod_right}
 use Rattle.std.proofs.lemmas.Nat.{mod_low}
 use Rattle.std.proofs.lemmas.Bool.{and_parts, ltb-true, eqb-true}
 use Rattle.plan.specs.Questions.{all_below}
 use Rattle.plan.specs.Scheme.{Scheme}
-use Rattle.code.specs.Coding.{around, is_block}
-use Rattle.code.specs.Numbers.{digit, num, bits_of}
+use Rattle.code.specs.Coding.{is_block}
+use Rattle.code.specs.Numbers.{digit, num}
 
 -- an entry of a list whose entries are all below a bound
 pub below_get_or : (bound : ℕ) (xs : List ℕ) (i : ℕ) → all_below bound xs ≡ true → i < length xs → get_or xs i 0 < bound
 below_get_or bound [] i t h = absurd (omega arith)
 below_get_or bound (x ∷ xs) zero t h = ltb-true x bound (and_parts (ltb x bound) (all_below bound xs) t).0
 below_get_or bound (x ∷ xs) (suc i) t h = below_get_or bound xs i (and_parts (ltb x bound) (all_below bound xs) t).1 (omega arith)
-
-pub digit_byte : (x : ℕ) → x < 2 → digit (eqb x 1) ≡ x
-digit_byte zero h = refl
-digit_byte (suc zero) h = refl
-digit_byte (suc (suc x)) h = absurd (omega arith)
 
 pub digit_le : (b : Bool) → digit b ≤ 1
 digit_le true = omega arith
@@ -50,15 +45,10 @@ wrapped i size low high =
 pub num_small : (f : ℕ → Bool) (n t : ℕ) → n ≤ 8 → num f n t < 256
 num_small f n t h = omega (arith, num_below f n t, pow_mono h)
 
-module _ (s : Scheme) (block : List ℕ) (is : is_block s block ≡ true) where
-  pub block_long : length block ≡ s.block
-  block_long = eqb-true (length block) s.block (and_parts (eqb (length block) s.block) (all_below 2 block) is).0
+-- one bit more
+pub num_more : (f : ℕ → Bool) (n t x y : ℕ) (b : Bool) → x ≡ num f n t → b ≡ f (t + n) → y ≡ 2 * x + digit b → y ≡ num f (n + 1) t
+num_more f n t x y b p q r = r ∙ (λ i. 2 * p i + digit (q i)) ∙ ap (λ m. num f m t) (sym (add-one n))
 
-  pub block_bits : all_below 2 block ≡ true
-  block_bits = (and_parts (eqb (length block) s.block) (all_below 2 block) is).1
-
-  -- one bit more of the block, wherever its end lies
-  pub num_more : (n t x y : ℕ) → x ≡ num (around s (bits_of block)) n t → y ≡ digit (bits_of block ((t + n) % length block)) → 2 * x + y ≡ num (around s (bits_of block)) (n + 1) t
-  num_more n t x y p q =
-      (λ i. 2 * p i + (q ∙ ap (λ m. digit (bits_of block ((t + n) % m))) block_long) i)
-      ∙ ap (λ m. num (around s (bits_of block)) m t) (sym (add-one n))
+-- a block has as many bytes as its plan says
+pub block_long : (s : Scheme) (block : List ℕ) → is_block s block ≡ true → length block ≡ s.block
+block_long s block is = eqb-true (length block) s.block (and_parts (eqb (length block) s.block) (all_below 2 block) is).0

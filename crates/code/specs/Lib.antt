@@ -1,5 +1,6 @@
 pub mod Numbers
 pub mod Coding
+pub mod Blocks
 pub mod Sending
 pub mod Mapping
 pub mod Answers

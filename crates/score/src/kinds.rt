@@ -80,12 +80,7 @@ impl Kind for CountFirst {
     }
 
     fn no_worse(&self, a: Tally, b: Tally) -> bool {
-        match (a, b) {
-            (Tally::Counted(c, t), Tally::Counted(d, u)) => c < d || (c == d && t <= u),
-            (Tally::Counted(_, _), Tally::Full) => true,
-            (Tally::Full, Tally::Counted(_, _)) => false,
-            (Tally::Full, Tally::Full) => true,
-        }
+        a <= b
     }
 }
 

@@ -1,6 +1,6 @@
-// The score of Count-first.
+// The score of Count-first, in order: the smaller count, of equal counts the smaller total, and last the full count.
 
-#[derive(Clone, Copy, Debug, PartialEq, Eq)]
+#[derive(Clone, Copy, Debug, PartialEq, Eq, PartialOrd, Ord)]
 pub enum Tally {
     // how many places are contradicted, and the total of their weights
     Counted(u32, u64),

@@ -33,7 +33,7 @@ impl BitValues {
     pub fn as_slice(&self) -> &[i16]
         ensures { result.now ≡ held self.now }
     {
-        &self.items[0..self.count]
+        &self.items[..self.count]
     }
 
     fn absorb<K: Kind>(&self, kind: &K, bit: bool, score: K::Score) -> K::Score
@@ -43,37 +43,43 @@ impl BitValues {
     }
 }
 
-// The value of a location: -32,768 is read as -32,767, and past the end there is 0.
-fn read(memory: &[i16], location: usize) -> i16
-    ensures { result ≡ value_at memory.now location }
-{
-    match memory.get(location) {
-        Some(value) => (*value).max(-32_767),
-        None => 0,
+// What was heard: the values of a plan's locations.
+#[derive(Clone, Copy)]
+struct Heard<'a> {
+    plan: &'a Plan,
+    memory: &'a [i16],
+}
+
+impl Heard<'_> {
+    // The value of a location: -32,768 is read as -32,767, and past the end there is 0.
+    fn at(&self, location: usize) -> i16
+        ensures { result ≡ value_at self.now.memory.now location }
+    {
+        self.memory.get(location).copied().unwrap_or(0).max(-32_767)
     }
-}
 
-// The value of a sent bit.
-fn value_of(plan: &Plan, memory: &[i16], n: usize) -> i16
-    requires { n < sent_length (plan_scheme plan.now) }
-    ensures { result ≡ value_at memory.now (place_of (plan_scheme plan.now) n) }
-{
-    read(memory, location(plan, n).unwrap())
-}
+    // The value of a sent bit.
+    fn of_bit(&self, n: usize) -> i16
+        requires { n < sent_length (plan_scheme self.now.plan.now) }
+        ensures { result ≡ value_at self.now.memory.now (place_of (plan_scheme self.now.plan.now) n) }
+    {
+        self.at(location(self.plan, n).unwrap())
+    }
 
-// The values of the sent bits of this run of the send list whose entry is this one.
-fn named(plan: &Plan, memory: &[i16], run: usize, wanted: usize) -> BitValues
-    requires { run < (plan_scheme plan.now).block / (plan_scheme plan.now).period }
-    ensures { held result ≡ named (plan_scheme plan.now) (value_at memory.now) run wanted }
-{
-    let list = plan.parts().send_list.as_slice();
-    let mut found = BitValues::none();
-    for (i, entry) in list.iter().enumerate() {
-        if usize::from(*entry) == wanted {
-            found.push(value_of(plan, memory, run * list.len() + i));
+    // The values of the sent bits of this run of the send list whose entry is this one.
+    fn named(&self, run: usize, wanted: usize) -> BitValues
+        requires { run < (plan_scheme self.now.plan.now).block / (plan_scheme self.now.plan.now).period }
+        ensures { held result ≡ named (plan_scheme self.now.plan.now) (value_at self.now.memory.now) run wanted }
+    {
+        let list = self.plan.parts().send_list.as_slice();
+        let mut found = BitValues::none();
+        for (i, entry) in list.iter().enumerate() {
+            if usize::from(*entry) == wanted {
+                found.push(self.of_bit(run * list.len() + i));
+            }
         }
+        found
     }
-    found
 }
 
 // The values of step t of a block, gathered from the memory. Past the block there are none.
@@ -89,9 +95,10 @@ pub fn gather(plan: &Plan, memory: &[i16], t: usize) -> StepValues
     }
     let run = t / parts.period;
     let entry = 2 * (t % parts.period);
+    let heard = Heard { plan, memory };
     StepValues {
-        first: named(plan, memory, run, entry),
-        second: named(plan, memory, run, entry + 1),
+        first: heard.named(run, entry),
+        second: heard.named(run, entry + 1),
     }
 }
 

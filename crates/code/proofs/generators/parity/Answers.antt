@@ -1,4 +1,4 @@
-use Rattle.std.proofs.Common.{◌≡◌, ℕ, cond, eqb, ap, ◌∙◌}
+use Rattle.std.proofs.Common.{◌≡◌, cond, eqb, ap, ◌∙◌}
 use Rattle.plan.specs.Plans.{plan_scheme}
 use Rattle.plan.proofs.Facts.{facts}
 use Rattle.code.proofs.Windows.{pair_by_masks}

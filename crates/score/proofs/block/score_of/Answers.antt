@@ -1,8 +1,8 @@
-use Rattle.std.proofs.Common.{rules}
+use Rattle.std.proofs.Common.{◌≡◌, ◌∙◌, rules}
 use Rattle.plan.specs.Plans.{plan_scheme}
 use Rattle.plan.proofs.Facts.{facts}
 use Rattle.code.specs.Numbers.{bits_of}
-use Rattle.score.specs.Blocks.{value_at}
+use Rattle.score.specs.Blocks.{value_at, block_score}
 use Rattle.score.proofs.Turns.{takes_each, agreed_is, contradicted_is}
 use Rattle.score.proofs.block.score_of.Goals as goal
 
@@ -14,11 +14,13 @@ returns g c =
     let f = facts s c.args.plan.now.accepted in
     let values = value_at c.args.memory.now in
     let u = bits_of c.args.block.now in
-    let x = c.steps.result in
+    let x = c.score_steps.result in
+    let made = c.in_ok-block.ensures.made in
+    let is : x ≡ block_score k s values u = c.score_steps.ensures ∙ (λ i. block_score k (made.0 i) values (made.1 i)) in
     record {
       answer = search rules;
-      score = c.steps.ensures;
-      each = takes_each k s values l f u x c.steps.ensures;
-      agreed = agreed_is k s values l f u x c.steps.ensures;
-      contradicted = contradicted_is k s values l f u x c.steps.ensures;
+      score = is;
+      each = takes_each k s values l f u x is;
+      agreed = agreed_is k s values l f u x is;
+      contradicted = contradicted_is k s values l f u x is;
     }

@@ -10,52 +10,52 @@ use Rattle.score.specs.Gathered.{held}
 use Rattle.score.specs.declared.gathered.BitValues.{BitValues}
 use Rattle.score.proofs.Gatherings.{Found, found_none, found_more, found_same, found_all}
 use Rattle.score.proofs.Sources.{sent_below}
-use Rattle.score.proofs.gathered.gathering.named.Goals as goal
-use Rattle.score.proofs.gathered.gathering.named.Goals.{then-from-wanted, else-from-wanted}
+use Rattle.score.proofs.gathered.gathering.Heard.named.Goals as goal
+use Rattle.score.proofs.gathered.gathering.Heard.named.Goals.{then-from-wanted, else-from-wanted}
 
 pub loop-i-init : goal.loop-i-init
 loop-i-init c =
-    let s = plan_scheme c.args.plan.now in (
+    let s = plan_scheme c.args.self.now.plan.now in (
       c.as_slice-list.ensures.value ∙ ap (λ (p : Parts). vec_items p.send_list) c.parts.ensures,
       omega arith,
-      subst (λ (found : List ℤ). Found s (value_at c.args.memory.now) c.args.run c.args.wanted found 0) (sym c.none-found.ensures.0) (found_none s (value_at c.args.memory.now) c.args.run c.args.wanted),
+      subst (λ (found : List ℤ). Found s (value_at c.args.self.now.memory.now) c.args.run c.args.wanted found 0) (sym c.none-found.ensures.0) (found_none s (value_at c.args.self.now.memory.now) c.args.run c.args.wanted),
     )
 
 -- the sent bit of this turn is one of the plan
-here : (c : goal.After-found-1) → c.args.run * length c.as_slice-list.result.now + c.loop-i.i < sent_length (plan_scheme c.args.plan.now)
+here : (c : goal.After-found-1) → c.args.run * length c.as_slice-list.result.now + c.loop-i.i < sent_length (plan_scheme c.args.self.now.plan.now)
 here c =
-    let s = plan_scheme c.args.plan.now in
+    let s = plan_scheme c.args.self.now.plan.now in
     let e : length c.as_slice-list.result.now ≡ length s.entries = ap length c.loop-i.invariant.0 in
-    rw e (sent_below s (facts s c.args.plan.now.accepted) c.args.run c.loop-i.i c.requires (omega arith))
+    rw e (sent_below s (facts s c.args.self.now.plan.now.accepted) c.args.run c.loop-i.i c.requires (omega arith))
 
 pub overflow_mul-run : goal.overflow_mul-run
 overflow_mul-run c =
-    let s = plan_scheme c.args.plan.now in
-    let f = facts s c.args.plan.now.accepted in
+    let s = plan_scheme c.args.self.now.plan.now in
+    let f = facts s c.args.self.now.plan.now.accepted in
     let h = here c in
     record { fits = omega arith }
 
 pub overflow_add-run : goal.overflow_add-run
 overflow_add-run c =
-    let s = plan_scheme c.args.plan.now in
-    let f = facts s c.args.plan.now.accepted in
+    let s = plan_scheme c.args.self.now.plan.now in
+    let f = facts s c.args.self.now.plan.now.accepted in
     let h = here c in
     record { fits = omega arith }
 
-pub value_of-requires : goal.value_of-requires
-value_of-requires c = here c
+pub of_bit-requires : goal.of_bit-requires
+of_bit-requires c = here c
 
 pub push-requires : goal.push-requires
 push-requires c =
-    let s = plan_scheme c.args.plan.now in
-    let f = facts s c.args.plan.now.accepted in
+    let s = plan_scheme c.args.self.now.plan.now in
+    let f = facts s c.args.self.now.plan.now.accepted in
     let e : length c.as_slice-list.result.now ≡ length s.entries = ap length c.loop-i.invariant.0 in
     omega arith
 
 pub loop-i-preserved : goal.loop-i-preserved
 loop-i-preserved c =
-    let s = plan_scheme c.args.plan.now in
-    let values = value_at c.args.memory.now in
+    let s = plan_scheme c.args.self.now.plan.now in
+    let values = value_at c.args.self.now.memory.now in
     let i = c.loop-i.i in
     let same = c.loop-i.invariant.0 in
     let e : length c.as_slice-list.result.now ≡ length s.entries = ap length same in
@@ -65,9 +65,9 @@ loop-i-preserved c =
     let Whole : List ℤ → Type 0 = λ found. Found s values c.args.run c.args.wanted found (i + 1) in
     elim c.if-from-wanted.branch [
       | then-from-wanted w ↦
-          let v : w.value_of.result ≡ values (location s (c.args.run * length s.entries + i)) =
-          w.value_of.ensures ∙ ap (λ m. values (location s (c.args.run * m + i))) e in
-          let new = ap held w.found-is ∙ w.push.ensures.0 ∙ ap (λ x. old ++ (x ∷ [])) (to_z-of_z w16 w.value_of.result (record { sfits = w.value_of.type_inv }) ∙ v) in (
+          let v : w.of_bit.result ≡ values (location s (c.args.run * length s.entries + i)) =
+          w.of_bit.ensures ∙ ap (λ m. values (location s (c.args.run * m + i))) e in
+          let new = ap held w.found-is ∙ w.push.ensures.0 ∙ ap (λ x. old ++ (x ∷ [])) (to_z-of_z w16 w.of_bit.result (record { sfits = w.of_bit.type_inv }) ∙ v) in (
             same,
             omega (arith, ap (λ (b : BitValues). b.count) w.found-is, w.push.ensures.1),
             subst Whole (sym new) (found_more s values c.args.run c.args.wanted old i b (sym x ∙ w.if-from-wanted.true) c.loop-i.invariant.2),
@@ -81,6 +81,6 @@ loop-i-preserved c =
 
 pub returns : goal.returns
 returns c =
-    let s = plan_scheme c.args.plan.now in
+    let s = plan_scheme c.args.self.now.plan.now in
     let e : length c.as_slice-list.result.now ≡ length s.entries = ap length c.loop-i.invariant.0 in
-    found_all s (value_at c.args.memory.now) c.args.run c.args.wanted (held c.loop-i.found) c.loop-i.i (omega arith) c.loop-i.invariant.2
+    found_all s (value_at c.args.self.now.memory.now) c.args.run c.args.wanted (held c.loop-i.found) c.loop-i.i (omega arith) c.loop-i.invariant.2
