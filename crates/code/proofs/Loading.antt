@@ -1,8 +1,8 @@
 -- Loading the interleaver array, one sent bit after the other.
 -- Assumes nothing.
-use Rattle.std.proofs.Common.{◌≡◌, ℕ, zero, suc, ◌+◌, ◌*◌, ◌/◌, ◌<◌, ◌≤◌, Bool, List, ◌++◌, length, get_or, set, sym, refl, ap, ◌∙◌, add-zero, add_assoc, add-suc, mod-lt, mul_assoc, mul_comm, add-one, arith}
+use Rattle.std.proofs.Common.{◌≡◌, ℕ, zero, suc, ◌+◌, ◌*◌, ◌/◌, ◌<◌, ◌≤◌, Bool, List, ◌++◌, length, get_or, set, sym, refl, ap, ◌∙◌, add-zero, add_assoc, add-suc, mod-lt, div-add-mod', mul_assoc, mul_comm, add-one, arith}
 use native.Mathlib.Nat.{mul-div-le}
-use Rattle.std.proofs.lemmas.Nat.{div-mul-add, mod-mul-add, mul-add-lt, mul-le}
+use Rattle.std.proofs.lemmas.Nat.{div-mul-add, mod-mul-add, mul-add-lt, mul-le, div_below}
 use Rattle.std.proofs.lemmas.List.{length-set, set-append_left}
 use Rattle.plan.specs.Scheme.{Scheme, sent_length}
 use Rattle.plan.proofs.Facts.{Facts}
@@ -29,6 +29,13 @@ module _ (s : Scheme) (known : Facts s) where
   -- sent bit n's product stays far below 2 to the power 64
   pub product_fits : (n : ℕ) → n < sent_length s → n * s.increment ≤ 4892236185600
   product_fits n h = mul-le n s.increment 2211840 2211840 (omega (arith, known.sent_high)) (omega (arith, known.increment_high, known.sent_high))
+
+  -- the run of a step is below the number of runs
+  pub run_below : (t : ℕ) → t < s.block → t / s.period < s.block / s.period
+  run_below t h =
+      let whole = div-add-mod' s.block s.period in
+      let none = known.block_whole in
+      div_below t s.period (s.block / s.period) known.period_low (omega arith)
 
   -- entry i of run j is a sent bit
   pub sent_below : (j i : ℕ) → j < s.block / s.period → i < length s.entries → j * length s.entries + i < sent_length s

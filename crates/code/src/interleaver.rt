@@ -8,6 +8,7 @@ ghost use Rattle.plan.specs.Faults.{chain_number, outcome};
 ghost use Rattle.plan.specs.Plans.{plan_scheme};
 ghost use Rattle.plan.specs.Scheme.{sent_length};
 
+use crate::run::Run;
 use plan::{ChainFault, Plan};
 
 // The location of sent bit n, or none where no such bit is sent.
@@ -18,7 +19,7 @@ pub fn location(plan: &Plan, n: usize) -> Option<usize>
     (n < plan.sent_length()).then(|| location_below(plan, n))
 }
 
-fn location_below(plan: &Plan, n: usize) -> usize
+pub(crate) fn location_below(plan: &Plan, n: usize) -> usize
     requires { n < sent_length (plan_scheme plan.now) }
     ensures value { result ≡ location_of (plan_scheme plan.now) n }
     ensures bound { result < sent_length (plan_scheme plan.now) }
@@ -51,38 +52,7 @@ fn load_runs(plan: &Plan, word: &[bool], array: &mut [bool])
     ensures { array.new ≡ loads (plan_scheme plan.now) (read word.now) array.old 0 (sent_length (plan_scheme plan.now)) }
 {
     let parts = plan.parts();
-    for run in 0..parts.block_length / parts.period {
-        load_run(plan, word, array, run);
+    for number in 0..parts.block_length / parts.period {
+        Run { plan, number }.load(word, array);
     }
-}
-
-// One run of the send list.
-fn load_run(plan: &Plan, word: &[bool], array: &mut [bool], run: usize)
-    requires { (2 * (plan_scheme plan.now).block ≤ length word.now) × ((sent_length (plan_scheme plan.now) ≤ length array.old) × (run < (plan_scheme plan.now).block / (plan_scheme plan.now).period)) }
-    ensures { array.new ≡ loads (plan_scheme plan.now) (read word.now) array.old (run * length (plan_scheme plan.now).entries) (length (plan_scheme plan.now).entries) }
-{
-    let list = plan.parts().send_list.as_slice();
-    for (i, entry) in list.iter().enumerate() {
-        array[location_below(plan, sent_number(plan, run, i))] = word[word_place(
-            plan, run, *entry,
-        )];
-    }
-}
-
-// The number of the sent bit that entry i of this run sends.
-fn sent_number(plan: &Plan, run: usize, i: usize) -> usize
-    requires { (run < (plan_scheme plan.now).block / (plan_scheme plan.now).period) × (i < length (plan_scheme plan.now).entries) }
-    ensures value { result ≡ run * length (plan_scheme plan.now).entries + i }
-    ensures bound { result < sent_length (plan_scheme plan.now) }
-{
-    run * plan.parts().send_list.len() + i
-}
-
-// The place in the code word that this entry names in this run.
-fn word_place(plan: &Plan, run: usize, entry: u8) -> usize
-    requires { (run < (plan_scheme plan.now).block / (plan_scheme plan.now).period) × (entry < 2 * (plan_scheme plan.now).period) }
-    ensures value { result ≡ 2 * (plan_scheme plan.now).period * run + entry }
-    ensures bound { result < 2 * (plan_scheme plan.now).block }
-{
-    2 * plan.parts().period * run + usize::from(entry)
 }

@@ -7,9 +7,11 @@ mod generators;
 mod interleaver;
 mod mapping;
 mod numbers;
+mod run;
 
 pub use block::{Block, is_block};
 pub use encoder::encode;
 pub use generators::parity;
 pub use interleaver::{load, location};
 pub use mapping::{has_bits, number_for, symbol_at, symbol_for};
+pub use run::Run;

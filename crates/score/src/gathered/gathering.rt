@@ -1,14 +1,12 @@
 // How the values of a step are gathered, and taken into a score.
-ghost use Rattle.std.specs.Prelude.{◌≡◌, ◌+◌, ◌*◌, ◌/◌, ◌<◌, [], ◌∷◌, ◌++◌};
+ghost use Rattle.std.specs.Prelude.{◌≡◌, ◌+◌, ◌<◌, [], ◌∷◌, ◌++◌};
 ghost use Rattle.plan.specs.Plans.{plan_scheme};
-ghost use Rattle.plan.specs.Scheme.{sent_length};
-ghost use Rattle.code.specs.Sending.{location as place_of};
 ghost use Rattle.score.specs.Blocks.{value_at, named, absorbed, absorbed_both};
 ghost use Rattle.score.specs.Gathered.{held, held_both, step_values_within};
 
 use crate::gathered::{BitValues, StepValues};
 use crate::kind::Kind;
-use code::location;
+use code::Run;
 use plan::Plan;
 
 impl BitValues {
@@ -43,62 +41,41 @@ impl BitValues {
     }
 }
 
-// What was heard: the values of a plan's locations.
-#[derive(Clone, Copy)]
-struct Heard<'a> {
-    plan: &'a Plan,
-    memory: &'a [i16],
+// The value of a location: -32,768 is read as -32,767, and past the end there is 0.
+fn read(memory: &[i16], location: usize) -> i16
+    ensures { result ≡ value_at memory.now location }
+{
+    memory.get(location).copied().unwrap_or(0).max(-32_767)
 }
 
-impl Heard<'_> {
-    // The value of a location: -32,768 is read as -32,767, and past the end there is 0.
-    fn at(&self, location: usize) -> i16
-        ensures { result ≡ value_at self.now.memory.now location }
-    {
-        self.memory.get(location).copied().unwrap_or(0).max(-32_767)
-    }
-
-    // The value of a sent bit.
-    fn of_bit(&self, n: usize) -> i16
-        requires { n < sent_length (plan_scheme self.now.plan.now) }
-        ensures { result ≡ value_at self.now.memory.now (place_of (plan_scheme self.now.plan.now) n) }
-    {
-        self.at(location(self.plan, n).unwrap())
-    }
-
-    // The values of the sent bits of this run of the send list whose entry is this one.
-    fn named(&self, run: usize, wanted: usize) -> BitValues
-        requires { run < (plan_scheme self.now.plan.now).block / (plan_scheme self.now.plan.now).period }
-        ensures { held result ≡ named (plan_scheme self.now.plan.now) (value_at self.now.memory.now) run wanted }
-    {
-        let list = self.plan.parts().send_list.as_slice();
-        let mut found = BitValues::none();
-        for (i, entry) in list.iter().enumerate() {
-            if usize::from(*entry) == wanted {
-                found.push(self.of_bit(run * list.len() + i));
-            }
+// The values of the sent bits of this run of the send list whose entry is this one.
+fn named(run: &Run<'_>, memory: &[i16], wanted: usize) -> BitValues
+    ensures { held result ≡ named (plan_scheme run.now.plan.now) (value_at memory.now) run.now.number wanted }
+{
+    let list = run.plan.parts().send_list.as_slice();
+    let mut found = BitValues::none();
+    for (i, entry) in list.iter().enumerate() {
+        if usize::from(*entry) == wanted {
+            found.push(read(memory, run.location(i).unwrap()));
         }
-        found
     }
+    found
 }
 
 // The values of step t of a block, gathered from the memory. Past the block there are none.
 pub fn gather(plan: &Plan, memory: &[i16], t: usize) -> StepValues
     ensures { held_both result ≡ step_values_within (plan_scheme plan.now) (value_at memory.now) t }
 {
-    let parts = plan.parts();
-    if t >= parts.block_length {
+    let Some(run) = Run::of_step(plan, t) else {
         return StepValues {
             first: BitValues::none(),
             second: BitValues::none(),
         };
-    }
-    let run = t / parts.period;
-    let entry = 2 * (t % parts.period);
-    let heard = Heard { plan, memory };
+    };
+    let entry = 2 * (t % plan.parts().period);
     StepValues {
-        first: heard.named(run, entry),
-        second: heard.named(run, entry + 1),
+        first: named(&run, memory, entry),
+        second: named(&run, memory, entry + 1),
     }
 }
 

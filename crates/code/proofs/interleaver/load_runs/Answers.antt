@@ -6,20 +6,20 @@ use Rattle.code.specs.Sending.{loads}
 use Rattle.code.proofs.Loading.{loads_on}
 use Rattle.code.proofs.interleaver.load_runs.Goals as goal
 
-pub loop-run-init : goal.loop-run-init
-loop-run-init c =
+pub loop-number-init : goal.loop-number-init
+loop-number-init c =
     let s = plan_scheme c.args.plan.now in
     ap (loads s (read c.args.word.now) c.args.array.now 0) (sym (zero-mul (length s.entries)))
 
-pub loop-run-preserved : goal.loop-run-preserved
-loop-run-preserved c =
+pub loop-number-preserved : goal.loop-number-preserved
+loop-number-preserved c =
     let s = plan_scheme c.args.plan.now in
     let w = read c.args.word.now in
     let m = length s.entries in
-    let done = c.loop-run.run * m in
-    let next : done + m ≡ (c.loop-run.run + 1) * m = omega (arith, add-mul c.loop-run.run 1 m, one-mul m) in
-    c.load_run.ensures
-    ∙ ap (λ l. loads s w l done m) c.loop-run.invariant
+    let done = c.loop-number.number * m in
+    let next : done + m ≡ (c.loop-number.number + 1) * m = omega (arith, add-mul c.loop-number.number 1 m, one-mul m) in
+    c.load.ensures
+    ∙ ap (λ l. loads s w l done m) c.loop-number.invariant
     ∙ ap (λ n. loads s w (loads s w c.args.array.now 0 done) n m) (sym (zero-add done))
     ∙ loads_on s (facts s c.args.plan.now.accepted) w c.args.array.now 0 done m
     ∙ ap (loads s w c.args.array.now 0) next
@@ -28,5 +28,5 @@ pub returns : goal.returns
 returns c =
     let s = plan_scheme c.args.plan.now in
     let end = ap (λ p. p.block_length / p.period) c.parts-parts.ensures in
-    let all : c.loop-run.run ≡ s.block / s.period = omega (arith, end, c.loop-run-test.false) in
-    c.loop-run.invariant ∙ ap (λ r. loads s (read c.args.word.now) c.args.array.now 0 (r * length s.entries)) all
+    let all : c.loop-number.number ≡ s.block / s.period = omega (arith, end, c.loop-number-test.false) in
+    c.loop-number.invariant ∙ ap (λ r. loads s (read c.args.word.now) c.args.array.now 0 (r * length s.entries)) all

@@ -4,43 +4,43 @@ use Rattle.plan.proofs.Facts.{facts}
 use Rattle.code.specs.Numbers.{read}
 use Rattle.code.specs.Sending.{loads, location}
 use Rattle.code.proofs.Loading.{entry_below, loads_more, source_of}
-use Rattle.code.proofs.interleaver.load_run.Goals as goal
-use Rattle.code.proofs.interleaver.load_run.Goals.{In-loop-i}
+use Rattle.code.proofs.run.Run.load.Goals as goal
+use Rattle.code.proofs.run.Run.load.Goals.{In-loop-i}
 
 -- the list is the plan's
-listed : (c : In-loop-i) → c.as_slice-list.result.now ≡ (plan_scheme c.args.plan.now).entries
+listed : (c : In-loop-i) → c.as_slice-list.result.now ≡ (plan_scheme c.args.self.now.plan.now).entries
 listed c = c.as_slice-list.ensures.value ∙ ap (λ p. vec_items p.send_list) c.parts.ensures
 
-inside : (c : In-loop-i) → c.loop-i.i < length (plan_scheme c.args.plan.now).entries
+inside : (c : In-loop-i) → c.loop-i.i < length (plan_scheme c.args.self.now.plan.now).entries
 inside c = omega (arith, c.loop-i-test.true, ap length (listed c))
 
 -- what the entry names
-entry : (c : In-loop-i) → get_or c.as_slice-list.result.now c.loop-i.i 0 ≡ get_or (plan_scheme c.args.plan.now).entries c.loop-i.i 0
+entry : (c : In-loop-i) → get_or c.as_slice-list.result.now c.loop-i.i 0 ≡ get_or (plan_scheme c.args.self.now.plan.now).entries c.loop-i.i 0
 entry c = ap (λ l. get_or l c.loop-i.i 0) (listed c)
 
 pub word_place-requires : goal.word_place-requires
 word_place-requires c =
-    let s = plan_scheme c.args.plan.now in
+    let s = plan_scheme c.args.self.now.plan.now in
     let here = (goal.at.word_place-requires c).In-loop-i in
-    (c.requires.1.1, omega (arith, entry here, entry_below s (facts s c.args.plan.now.accepted) c.loop-i.i (inside here)))
+    omega (arith, entry here, entry_below s (facts s c.args.self.now.plan.now.accepted) c.loop-i.i (inside here))
 
 pub sent_number-requires : goal.sent_number-requires
-sent_number-requires c = (c.requires.1.1, inside (goal.at.sent_number-requires c).In-loop-i)
+sent_number-requires c = inside (goal.at.sent_number-requires c).In-loop-i
 
 pub loop-i-preserved : goal.loop-i-preserved
 loop-i-preserved c =
-    let s = plan_scheme c.args.plan.now in
-    let known = facts s c.args.plan.now.accepted in
+    let s = plan_scheme c.args.self.now.plan.now in
+    let known = facts s c.args.self.now.plan.now.accepted in
     let here = (goal.at.loop-i-preserved c).In-loop-i in
     let word = c.args.word.now in
-    let n = c.args.run * length s.entries in
+    let n = c.args.self.now.number * length s.entries in
     loads_more s known (read word) c.args.array.now c.loop-i.array n c.loop-i.i c.location_below.result (get_or word c.word_place.result false)
     c.loop-i.invariant
     (c.location_below.ensures.value ∙ ap (location s) c.sent_number.ensures.value)
-    (ap (read word) (c.word_place.ensures.value ∙ ap (λ e. 2 * s.period * c.args.run + e) (entry here) ∙ sym (source_of s known c.args.run c.loop-i.i (inside here))))
+    (ap (read word) (c.word_place.ensures.value ∙ ap (λ e. 2 * s.period * c.args.self.now.number + e) (entry here) ∙ sym (source_of s known c.args.self.now.number c.loop-i.i (inside here))))
 
 pub returns : goal.returns
 returns c =
-    let s = plan_scheme c.args.plan.now in
+    let s = plan_scheme c.args.self.now.plan.now in
     let all : c.loop-i.i ≡ length s.entries = omega (arith, c.loop-i-test.false, ap length (c.as_slice-list.ensures.value ∙ ap (λ p. vec_items p.send_list) c.parts.ensures)) in
-    c.loop-i.invariant ∙ ap (loads s (read c.args.word.now) c.args.array.now (c.args.run * length s.entries)) all
+    c.loop-i.invariant ∙ ap (loads s (read c.args.word.now) c.args.array.now (c.args.self.now.number * length s.entries)) all
