@@ -52,6 +52,7 @@ fn load_runs(plan: &Plan, word: &[bool], array: &mut [bool])
     ensures { array.new ≡ loads (plan_scheme plan.now) (read word.now) array.old 0 (sent_length (plan_scheme plan.now)) }
 {
     let parts = plan.parts();
+    // nothing is indexed here: the number makes the run
     for number in 0..parts.block_length / parts.period {
         Run { plan, number }.load(word, array);
     }

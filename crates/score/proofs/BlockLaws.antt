@@ -11,7 +11,8 @@ use Rattle.score.specs.Values.{contradicted}
 use Rattle.score.specs.Scale.{Scale, Lawful, better}
 use Rattle.score.specs.Blocks.{named_from, named, absorbed, step_values, step_score, score_after, block_score, contradicted_at, Agrees, Contradicts}
 use Rattle.score.proofs.Laws.{same, absorbed_growing, absorbed_monotone, worse_on, worse_once, better_from}
-use Rattle.score.proofs.Sources.{run_below, sent_below, source_is, Taken, taken}
+use Rattle.code.proofs.Loading.{run_below, sent_below}
+use Rattle.score.proofs.Sources.{source_is, Taken, taken}
 
 half_cases : (h : ℕ) → h < 2 → (h ≡ 0) ⊎ (h ≡ 1)
 half_cases zero b = inl refl

@@ -8,17 +8,6 @@ use Rattle.code.specs.Sending.{source}
 use Rattle.code.proofs.Blocks.{below_get_or}
 
 module _ (s : Scheme) (f : Facts s) where
-  -- the run of a step is below the number of runs
-  pub run_below : (t : ℕ) → t < s.block → t / s.period < s.block / s.period
-  run_below t h =
-      let whole = div-add-mod' s.block s.period in
-      let none = f.block_whole in
-      div_below t s.period (s.block / s.period) f.period_low (omega arith)
-
-  -- place i of run j is a sent bit
-  pub sent_below : (j i : ℕ) → j < s.block / s.period → i < length s.entries → j * length s.entries + i < sent_length s
-  sent_below j i h g = let m = mul-add-lt j (length s.entries) i (s.block / s.period) h g in omega arith
-
   -- the sent bit at place i of step t's run, by its entry
   pub source_is : (t i half : ℕ) → i < length s.entries → get_or s.entries i 0 ≡ 2 * (t % s.period) + half → source s (t / s.period * length s.entries + i) ≡ 2 * t + half
   source_is t i half g e =

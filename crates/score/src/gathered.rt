@@ -4,6 +4,7 @@ ghost use Rattle.std.specs.Prelude.{◌≤◌};
 pub mod gathering;
 
 // The values that name one mother bit, in the order of the send list: at most one for each of its entries.
+// Places and a count, not a Vec: it is copied into each step of a search, which allocates nothing.
 #[derive(Clone, Copy)]
 pub struct BitValues {
     items: [i16; 32],

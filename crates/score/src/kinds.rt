@@ -1,4 +1,4 @@
-// The three kinds of score.
+// The three kinds of score. Each writes out its start and its order: provided ones would ask every kind for an ordered score with a least value.
 ghost use Rattle.std.specs.Prelude.{◌≡◌};
 ghost use Rattle.score.specs.Kinds.{total_scale, worst_scale, count_scale, counted};
 ghost use Rattle.std.proofs.Common.{rules};

@@ -50,6 +50,7 @@ impl<'a> Block<'a> {
         let memory = self.plan.parts().constraint - 1;
         let low = (1 << memory) - 1;
         let mut state = self.number(0, memory);
+        // by index: a proof keeps no element of what is written through a slice's chunks
         for t in 0..self.len() {
             let window = append(state, self.bit(t + memory));
             let (first, second) = parity(self.plan, window);

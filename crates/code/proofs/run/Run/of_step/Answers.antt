@@ -1,4 +1,4 @@
-use Rattle.std.proofs.Common.{◌≡◌, ◌/◌, ◌<◌, refl, ap, arith}
+use Rattle.std.proofs.Common.{◌/◌, ◌<◌, ap, arith}
 use Rattle.plan.specs.Plans.{plan_scheme}
 use Rattle.plan.proofs.Facts.{facts}
 use Rattle.code.proofs.Loading.{run_below}
