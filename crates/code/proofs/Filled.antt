@@ -35,7 +35,3 @@ module _ {X : Type 0} (f : ℕ → X) where
       (λ past. h.rest k d past ∙ sym (get_or-append_right _ (drop n old) n k d front past ∙ get_or-drop n old (k - n) d ∙ ap (λ j. get_or old j d) (omega arith)))
       (cases_lt k n))
 
--- the same value at each place
-pub filled_same : {X : Type 0} (a n : ℕ) (x : X) → map (λ _. x) (range_with_len a n) ≡ replicate n x
-filled_same a zero x = refl
-filled_same a (suc n) x = ap (λ l. x ∷ l) (filled_same (a + 1) n x)

@@ -6,11 +6,6 @@ use Rattle.code.specs.Sending.{loads}
 use Rattle.code.proofs.Loading.{loads_on}
 use Rattle.code.proofs.interleaver.load_runs.Goals as goal
 
-pub loop-number-init : goal.loop-number-init
-loop-number-init c =
-    let s = plan_scheme c.args.plan.now in
-    ap (loads s (read c.args.word.now) c.args.array.now 0) (sym (zero-mul (length s.entries)))
-
 pub loop-number-preserved : goal.loop-number-preserved
 loop-number-preserved c =
     let s = plan_scheme c.args.plan.now in
@@ -23,10 +18,3 @@ loop-number-preserved c =
     ∙ ap (λ n. loads s w (loads s w c.args.array.now 0 done) n m) (sym (zero-add done))
     ∙ loads_on s (facts s c.args.plan.now.accepted) w c.args.array.now 0 done m
     ∙ ap (loads s w c.args.array.now 0) next
-
-pub returns : goal.returns
-returns c =
-    let s = plan_scheme c.args.plan.now in
-    let end = ap (λ p. p.block_length / p.period) c.parts-parts.ensures in
-    let all : c.loop-number.number ≡ s.block / s.period = omega (arith, end, c.loop-number-test.false) in
-    c.loop-number.invariant ∙ ap (λ r. loads s (read c.args.word.now) c.args.array.now 0 (r * length s.entries)) all

@@ -11,9 +11,6 @@ overflow_mul-result c =
     let same = ap (λ p. c.args.n * p.increment) c.parts.ensures in
     omega (arith, same, product_fits s (facts s c.args.plan.now.accepted) c.args.n c.requires)
 
-pub returns : goal.returns
+pub returns-clause-value : goal.returns-clause-value
 unfolding location
-returns c =
-    let s = plan_scheme c.args.plan.now in
-    let same : c.args.n * c.parts.result.now.increment % c.sent_length.result ≡ location s c.args.n = λ i. c.args.n * (c.parts.ensures i).increment % c.sent_length.ensures i in
-    record { value = same; bound = omega (arith, same, location_below s (facts s c.args.plan.now.accepted) c.args.n) }
+returns-clause-value c = λ i. c.args.n * (c.parts.ensures i).increment % c.sent_length.ensures i

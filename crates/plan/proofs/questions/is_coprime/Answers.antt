@@ -5,9 +5,6 @@ use Rattle.plan.specs.Questions.{coprime}
 use Rattle.plan.proofs.Divisors.{SameDivisors, euclid_step, euclid_yes, euclid_no}
 use Rattle.plan.proofs.questions.is_coprime.Goals as goal
 
-pub loop-y-init : goal.loop-y-init
-loop-y-init c = λ d. (λ h. h, λ h. h)
-
 pub loop-y-preserved : goal.loop-y-preserved
 loop-y-preserved c = euclid_step c.loop-y.x c.loop-y.y c.args.a c.args.n c.loop-y.invariant
 

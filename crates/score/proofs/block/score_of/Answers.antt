@@ -1,6 +1,7 @@
-use Rattle.std.proofs.Common.{◌≡◌, ◌∙◌, rules}
+use Rattle.std.proofs.Common.{◌≡◌, subst, rules}
 use Rattle.plan.specs.Plans.{plan_scheme}
 use Rattle.plan.proofs.Facts.{facts}
+use Rattle.code.specs.Blocks.{block_scheme, block_bits}
 use Rattle.code.specs.Numbers.{bits_of}
 use Rattle.score.specs.Blocks.{value_at, block_score}
 use Rattle.score.proofs.Turns.{takes_each, agreed_is, contradicted_is}
@@ -16,7 +17,8 @@ returns g c =
     let u = bits_of c.args.block.now in
     let x = c.score_steps.result in
     let made = c.in_ok-block.ensures.made in
-    let is : x ≡ block_score k s values u = c.score_steps.ensures ∙ (λ i. block_score k (made.0 i) values (made.1 i)) in
+    let same : block_score k (block_scheme c.in_ok-block.block) values (block_bits c.in_ok-block.block) ≡ block_score k s values u = λ i. block_score k (made.0 i) values (made.1 i) in
+    let is : x ≡ block_score k s values u = subst (λ v. x ≡ v) same c.score_steps.ensures in
     record {
       answer = search rules;
       score = is;

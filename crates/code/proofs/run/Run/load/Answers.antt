@@ -18,15 +18,6 @@ inside c = omega (arith, c.loop-i-test.true, ap length (listed c))
 entry : (c : In-loop-i) → get_or c.as_slice-list.result.now c.loop-i.i 0 ≡ get_or (plan_scheme c.args.self.now.plan.now).entries c.loop-i.i 0
 entry c = ap (λ l. get_or l c.loop-i.i 0) (listed c)
 
-pub word_place-requires : goal.word_place-requires
-word_place-requires c =
-    let s = plan_scheme c.args.self.now.plan.now in
-    let here = (goal.at.word_place-requires c).In-loop-i in
-    omega (arith, entry here, entry_below s (facts s c.args.self.now.plan.now.accepted) c.loop-i.i (inside here))
-
-pub sent_number-requires : goal.sent_number-requires
-sent_number-requires c = inside (goal.at.sent_number-requires c).In-loop-i
-
 pub loop-i-preserved : goal.loop-i-preserved
 loop-i-preserved c =
     let s = plan_scheme c.args.self.now.plan.now in
@@ -38,9 +29,3 @@ loop-i-preserved c =
     c.loop-i.invariant
     (c.location_below.ensures.value ∙ ap (location s) c.sent_number.ensures.value)
     (ap (read word) (c.word_place.ensures.value ∙ ap (λ e. 2 * s.period * c.args.self.now.number + e) (entry here) ∙ sym (source_of s known c.args.self.now.number c.loop-i.i (inside here))))
-
-pub returns : goal.returns
-returns c =
-    let s = plan_scheme c.args.self.now.plan.now in
-    let all : c.loop-i.i ≡ length s.entries = omega (arith, c.loop-i-test.false, ap length (c.as_slice-list.ensures.value ∙ ap (λ p. vec_items p.send_list) c.parts.ensures)) in
-    c.loop-i.invariant ∙ ap (loads s (read c.args.word.now) c.args.array.now (c.args.self.now.number * length s.entries)) all
