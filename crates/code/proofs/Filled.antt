@@ -1,6 +1,6 @@
 -- A memory whose first n places hold what a function says, and whose other places are as they were.
 -- Assumes nothing.
-use Rattle.std.proofs.Common.{◌≡◌, ℕ, zero, suc, ◌+◌, ◌-◌, ◌<◌, ◌≤◌, ◌≢◌, List, ◌∷◌, ◌++◌, map, length, get_or, drop, set, replicate, sym, refl, ap, ◌∙◌, ⊎_elim, arith}
+use Rattle.std.proofs.Common.{◌≡◌, ℕ, ◌+◌, ◌-◌, ◌<◌, ◌≤◌, ◌≢◌, List, ◌++◌, map, length, get_or, drop, set, sym, refl, ap, ◌∙◌, ⊎_elim, arith}
 use Rattle.std.specs.List.{range_with_len}
 use Rattle.std.proofs.lemmas.List.FromFn.{length-map-range_with_len, get_or-map-range_with_len}
 use Rattle.std.proofs.lemmas.List.{length-set, length-append, length-drop, get_or-set_same, get_or-set_other, get_or_append_left, get_or-append_right, get_or-drop, same_lists}
@@ -34,4 +34,3 @@ module _ {X : Type 0} (f : ℕ → X) where
       (λ in_front. h.front k d in_front (omega (arith, h.long)) ∙ sym (get_or_append_left _ (drop n old) d k (omega (arith, front)) ∙ get_or-map-range_with_len f 0 n k k d in_front (omega arith)))
       (λ past. h.rest k d past ∙ sym (get_or-append_right _ (drop n old) n k d front past ∙ get_or-drop n old (k - n) d ∙ ap (λ j. get_or old j d) (omega arith)))
       (cases_lt k n))
-

@@ -1,4 +1,4 @@
-use Rattle.std.proofs.Common.{◌≡◌, ◌+◌, ◌*◌, ◌/◌, length, sym, ap, ◌∙◌, add-mul, one-mul, zero-add, zero-mul, arith}
+use Rattle.std.proofs.Common.{◌≡◌, ◌+◌, ◌*◌, length, sym, ap, ◌∙◌, add-mul, one-mul, zero-add, arith}
 use Rattle.plan.specs.Plans.{plan_scheme}
 use Rattle.plan.proofs.Facts.{facts}
 use Rattle.code.specs.Numbers.{read}

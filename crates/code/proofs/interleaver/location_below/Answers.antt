@@ -1,8 +1,8 @@
-use Rattle.std.proofs.Common.{◌≡◌, ◌*◌, ◌%◌, ap, arith}
+use Rattle.std.proofs.Common.{◌*◌, ◌%◌, ap, arith}
 use Rattle.plan.specs.Plans.{plan_scheme}
 use Rattle.plan.proofs.Facts.{facts}
 use Rattle.code.specs.Sending.{location}
-use Rattle.code.proofs.Loading.{product_fits, location_below}
+use Rattle.code.proofs.Loading.{product_fits}
 use Rattle.code.proofs.interleaver.location_below.Goals as goal
 
 pub overflow_mul-result : goal.overflow_mul-result

@@ -2,8 +2,8 @@ use Rattle.std.proofs.Common.{◌≡◌, ◌+◌, ◌*◌, ◌<◌, false, lengt
 use Rattle.plan.specs.Plans.{plan_scheme}
 use Rattle.plan.proofs.Facts.{facts}
 use Rattle.code.specs.Numbers.{read}
-use Rattle.code.specs.Sending.{loads, location}
-use Rattle.code.proofs.Loading.{entry_below, loads_more, source_of}
+use Rattle.code.specs.Sending.{location}
+use Rattle.code.proofs.Loading.{loads_more, source_of}
 use Rattle.code.proofs.run.Run.load.Goals as goal
 use Rattle.code.proofs.run.Run.load.Goals.{In-loop-i}
 
