@@ -6,7 +6,7 @@ ghost use Rattle.scrambler.specs.Questions.{width_fits};
 pub(crate) fn width_fits(width: usize) -> bool
     ensures { result ≡ width_fits width }
 {
-    3 <= width && width <= 6 || width == 8
+    matches!(width, 3..=6 | 8)
 }
 
 // How many values have at most this many bits.

@@ -36,7 +36,7 @@ fn values_fit(width: usize, values: &[u8]) -> bool
     requires { width ≤ 8 }
     ensures { result ≡ (within 1 4096 (length values.now) && all_below (2 ^ width) values.now) }
 {
-    1 <= values.len() && values.len() <= 4096 && all_below(values, values_of(width))
+    matches!(values.len(), 1..=4096) && all_below(values, values_of(width))
 }
 
 impl Scrambler for Table {
