@@ -1,2 +1,3 @@
 pub mod Hearing
 pub mod Looks
+pub mod Runs

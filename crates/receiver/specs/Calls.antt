@@ -1,6 +1,7 @@
 -- What the receiver's calls answer: 0, or the number of the first question that is answered no.
 -- Assumes nothing.
-use Rattle.std.specs.Prelude.{ℕ, ◌^◌, Bool, cond, not, ◌&&◌, ℤ, is_some, nat_le, nat_lt, unsigned_abs}
+use Rattle.std.specs.Prelude.{◌≡◌, ℕ, ◌^◌, Bool, true, false, cond, not, ◌&&◌, ℤ, is_some, Result, MatchResult, nat_le, nat_lt, unsigned_abs}
+use Rattle.plan.specs.declared.fault.ChainFault.{ChainFault}
 use Rattle.plan.specs.Scheme.{Scheme, sent_length}
 use Rattle.sender.specs.Scrambling.{fits, needed_width}
 use Rattle.sender.specs.Transmission.{symbols}
@@ -43,3 +44,7 @@ note_answer s lent location value = cond (not (lent_enough s lent)) 13 (cond (no
 -- blanking asks for the memory, then for the place
 abbrev pub blank_answer : Scheme → ℕ → ℕ → ℕ
 blank_answer s lent place = cond (not (lent_enough s lent)) 13 (cond (not (nat_lt place (symbols s))) 14 0)
+
+-- a question that is passed where its answer is yes, and is the fault where it is no
+abbrev pub Asks : {X : Type 0} → Bool → ChainFault → Result X ChainFault → Type 0
+Asks passes fault result = MatchResult result (λ _. passes ≡ true) (λ e. (e ≡ fault) × (passes ≡ false))

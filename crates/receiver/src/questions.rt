@@ -1,47 +1,58 @@
-// What the receiver's calls ask, each as a test.
-ghost use Rattle.std.specs.Prelude.{◌≡◌, ◌+◌, ◌*◌, ◌≤◌, true, nat_lt};
+// What the receiver's calls ask. A question that is answered no is the fault that the call answers.
+ghost use Rattle.std.specs.Prelude.{◌≡◌, ◌+◌, ◌*◌, ◌≤◌, length, nat_lt, IfOk};
 ghost use Rattle.plan.specs.Plans.{plan_scheme};
 ghost use Rattle.plan.specs.Scheme.{sent_length};
-ghost use Rattle.receiver.specs.Calls.{lent_enough, index_fits, note_fits};
+ghost use Rattle.plan.specs.declared.fault.ChainFault.TheVariants.{TooShort, Place, Index, Location};
+ghost use Rattle.receiver.specs.Calls.{lent_enough, index_fits, note_fits, Asks};
 ghost use Rattle.sender.specs.Transmission.{symbols};
 
 use code::has_bits;
-use plan::Plan;
+use plan::{ChainFault, Plan};
 use sender::needed_width;
+use std::ops::Range;
 
-// Whether a lent memory has a value for each location.
-pub(crate) fn is_lent(plan: &Plan, lent: usize) -> bool
-    ensures { result ≡ lent_enough (plan_scheme plan.now) lent }
+// Asks that a lent memory has a value for each location.
+pub(crate) fn check_memory(plan: &Plan, memory: &[i16]) -> Result<(), ChainFault>
+    ensures { Asks (lent_enough (plan_scheme plan.now) (length memory.now)) TooShort result }
 {
-    plan.sent_length() <= lent
+    if memory.len() >= plan.sent_length() {
+        Ok(())
+    } else {
+        Err(ChainFault::TooShort)
+    }
 }
 
-// Whether a symbol is sent at this place.
-pub(crate) fn is_sent(plan: &Plan, place: usize) -> bool
-    ensures { result ≡ nat_lt place (symbols (plan_scheme plan.now)) }
+// Asks that the index goes on the air, and that the weight is in range.
+pub(crate) fn check_index(plan: &Plan, index: u8, weight: u16) -> Result<(), ChainFault>
+    ensures { Asks (index_fits (plan_scheme plan.now) index weight) Index result }
 {
-    place < plan.symbols()
+    if has_bits(index, needed_width(plan.parts().symbol_bits)) && weight <= 32_767 {
+        Ok(())
+    } else {
+        Err(ChainFault::Index)
+    }
 }
 
-// Whether the index goes on the air, and the weight is in range.
-pub(crate) fn fits_index(plan: &Plan, index: u8, weight: u16) -> bool
-    ensures { result ≡ index_fits (plan_scheme plan.now) index weight }
+// Asks that the location exists, and that the value is in range.
+pub(crate) fn check_note(plan: &Plan, location: usize, value: i16) -> Result<(), ChainFault>
+    ensures { Asks (note_fits (plan_scheme plan.now) location value) Location result }
 {
-    has_bits(index, needed_width(plan.parts().symbol_bits)) && weight <= 32_767
+    if location < plan.sent_length() && value.unsigned_abs() <= 32_767 {
+        Ok(())
+    } else {
+        Err(ChainFault::Location)
+    }
 }
 
-// Whether the location exists, and the value is in range.
-pub(crate) fn fits_note(plan: &Plan, location: usize, value: i16) -> bool
-    ensures { result ≡ note_fits (plan_scheme plan.now) location value }
+// The locations of the symbol at this place, where one is sent there.
+pub(crate) fn locations(plan: &Plan, place: usize) -> Result<Range<usize>, ChainFault>
+    ensures asked { Asks (nat_lt place (symbols (plan_scheme plan.now))) Place result }
+    ensures run { IfOk result (λ r. (r.start ≡ place * (plan_scheme plan.now).bits) × (r.end ≡ r.start + (plan_scheme plan.now).bits) × (r.end ≤ sent_length (plan_scheme plan.now))) }
 {
-    location < plan.sent_length() && value.unsigned_abs() <= 32_767
-}
-
-// The first location of the symbol at this place.
-pub(crate) fn first_location(plan: &Plan, place: usize) -> usize
-    requires { nat_lt place (symbols (plan_scheme plan.now)) ≡ true }
-    ensures value { result ≡ place * (plan_scheme plan.now).bits }
-    ensures room { result + (plan_scheme plan.now).bits ≤ sent_length (plan_scheme plan.now) }
-{
-    place * plan.parts().symbol_bits
+    if place >= plan.symbols() {
+        return Err(ChainFault::Place);
+    }
+    let bits = plan.parts().symbol_bits;
+    let first = place * bits;
+    Ok(first..first + bits)
 }

@@ -1,25 +1,17 @@
 // Setting the values of a run of locations.
-ghost use Rattle.std.specs.Prelude.{◌≡◌, ◌+◌, ◌<◌, ◌≤◌, length, pos};
+ghost use Rattle.std.specs.Prelude.{◌≡◌, ◌<◌, ◌≤◌, map, length};
 ghost use Rattle.code.specs.Numbers.{bit_of};
-ghost use Rattle.receiver.specs.Values.{signed, with_values};
+ghost use Rattle.receiver.specs.Values.{signed};
+ghost use Rattle.std.specs.List.{range_with_len};
 
-// Sets the values of so many locations, from `first` on, to 0.
-pub(crate) fn clear(memory: &mut [i16], first: usize, count: usize)
-    requires { first + count ≤ length memory.old }
-    ensures { memory.new ≡ with_values memory.old first (λ _. pos 0) count }
+// Sets the values of a symbol's locations by the bits of its number.
+pub(crate) fn set_bits(run: &mut [i16], number: u8, weight: u16)
+    requires { (length run.old ≤ 8) × (weight ≤ 32767) }
+    ensures { let bits = length run.old in run.new ≡ map (λ i. signed weight (bit_of bits number i)) (range_with_len 0 bits) }
 {
-    for i in 0..count {
-        memory[first + i] = 0;
-    }
-}
-
-// Sets the values of a symbol's locations, from `first` on, by the bits of its number.
-pub(crate) fn set_bits(memory: &mut [i16], first: usize, bits: usize, number: u8, weight: u16)
-    requires { (first + bits ≤ length memory.old) × ((bits ≤ 8) × (weight ≤ 32767)) }
-    ensures { memory.new ≡ with_values memory.old first (λ i. signed weight (bit_of bits number i)) bits }
-{
-    for i in 0..bits {
-        memory[first + i] = value_for(weight, bit_at(number, bits, i));
+    let bits = run.len();
+    for (i, value) in run.iter_mut().enumerate() {
+        *value = value_for(weight, bit_at(number, bits, i));
     }
 }
 

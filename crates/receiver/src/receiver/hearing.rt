@@ -8,7 +8,7 @@ ghost use Rattle.receiver.specs.Values.{after_making, after_hear, after_note, af
 
 use crate::questions::*;
 use crate::receiver::Receiver;
-use crate::values::{clear, set_bits};
+use crate::values::set_bits;
 use code::number_for;
 use plan::{ChainFault, Plan};
 use scrambler::Scrambler;
@@ -24,10 +24,8 @@ impl<S: Scrambler + Drop> Receiver<S> {
         if !fits(&plan, &mut scrambler) {
             return Err(ChainFault::Fit);
         }
-        if !is_lent(&plan, memory.len()) {
-            return Err(ChainFault::TooShort);
-        }
-        clear(memory, 0, plan.sent_length());
+        check_memory(&plan, memory)?;
+        memory[0..plan.sent_length()].fill(0);
         Ok(Receiver { plan, scrambler })
     }
 
@@ -49,12 +47,8 @@ impl<S: Scrambler + Drop> Receiver<S> {
         ensures after { memory.new ≡ (if is_ok result then after_note location value memory.old else memory.old) }
         ensures kept { view_of S.meaning self.new ≡ view_of S.meaning self.old }
     {
-        if !is_lent(&self.plan, memory.len()) {
-            return Err(ChainFault::TooShort);
-        }
-        if !fits_note(&self.plan, location, value) {
-            return Err(ChainFault::Location);
-        }
+        check_memory(&self.plan, memory)?;
+        check_note(&self.plan, location, value)?;
         memory[location] = value;
         Ok(())
     }
@@ -65,17 +59,9 @@ impl<S: Scrambler + Drop> Receiver<S> {
         ensures after { memory.new ≡ (if is_ok result then after_blank (plan_scheme self.old.plan) place memory.old else memory.old) }
         ensures kept { view_of S.meaning self.new ≡ view_of S.meaning self.old }
     {
-        if !is_lent(&self.plan, memory.len()) {
-            return Err(ChainFault::TooShort);
-        }
-        if !is_sent(&self.plan, place) {
-            return Err(ChainFault::Place);
-        }
-        clear(
-            memory,
-            first_location(&self.plan, place),
-            self.plan.parts().symbol_bits,
-        );
+        check_memory(&self.plan, memory)?;
+        let locations = locations(&self.plan, place)?;
+        memory[locations].fill(0);
         Ok(())
     }
 
@@ -94,25 +80,13 @@ impl<S: Scrambler + Drop> Receiver<S> {
         if !fits(&self.plan, &mut self.scrambler) {
             return Err(ChainFault::Fit);
         }
-        if !is_lent(&self.plan, memory.len()) {
-            return Err(ChainFault::TooShort);
-        }
-        if !is_sent(&self.plan, place) {
-            return Err(ChainFault::Place);
-        }
-        if !fits_index(&self.plan, index, weight) {
-            return Err(ChainFault::Index);
-        }
+        check_memory(&self.plan, memory)?;
+        let locations = locations(&self.plan, place)?;
+        check_index(&self.plan, index, weight)?;
         let Some(number) = number_heard(&self.plan, &mut self.scrambler, place, index) else {
             return Err(ChainFault::Mapping);
         };
-        set_bits(
-            memory,
-            first_location(&self.plan, place),
-            self.plan.parts().symbol_bits,
-            number,
-            weight,
-        );
+        set_bits(&mut memory[locations], number, weight);
         Ok(())
     }
 }
