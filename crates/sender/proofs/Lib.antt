@@ -3,5 +3,7 @@ pub mod Apart
 pub mod Groups
 pub mod Outcomes
 pub mod Frames
+pub mod Writing
+pub mod Keeping
 pub mod Sent
 pub mod Answering

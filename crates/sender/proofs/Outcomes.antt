@@ -17,7 +17,7 @@ plan_positive SymbolBits e = omega arith
 plan_positive FrameLength e = omega arith
 plan_positive Increment e = omega arith
 
-positive : (f : ChainFault) → chain_number f ≡ 0 → ⊥
+pub positive : (f : ChainFault) → chain_number f ≡ 0 → ⊥
 positive (Plan f) e = plan_positive f e
 positive Row e = omega arith
 positive Scrambler e = omega arith

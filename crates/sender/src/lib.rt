@@ -1,7 +1,6 @@
 // The sender: a block's coded bits, interleaved, mapped to symbols and scrambled.
 #![tactic(auto)]
 
-mod indices;
 mod laws;
 mod scrambling;
 mod sender;

@@ -8,7 +8,6 @@ ghost use Rattle.sender.specs.Senders.{sender_scheme};
 ghost use Rattle.sender.specs.Transmission.{symbols, transmission};
 ghost use Rattle.code.specs.Numbers.{bits_of};
 
-use crate::indices::write_indices;
 use crate::scrambling::fits;
 use crate::sender::Sender;
 use code::{encode, load};
@@ -44,15 +43,12 @@ impl<'p, S: Scrambler + Drop> Sender<'p, S> {
         ensures meaning_kept { S.meaning self.new.scrambler ≡ S.meaning self.old.scrambler }
         ensures fit { scheme_fits (sender_scheme self.old) (S.meaning self.old.scrambler) ≡ true → outcome chain_number result ≢ 11 }
     {
-        if !fits(self.plan, &mut self.scrambler) {
-            return Err(ChainFault::Fit);
-        }
         encode(self.plan, block, self.word.as_mut_slice())?;
         if out.len() < self.plan.symbols() {
             return Err(ChainFault::TooShort);
         }
         load(self.plan, self.word.as_slice(), self.array.as_mut_slice())?;
-        write_indices(self.plan, &mut self.scrambler, self.array.as_slice(), out);
+        self.write_indices(out);
         Ok(())
     }
 }
