@@ -37,13 +37,3 @@ all_yes s m block room fit is long =
     sym (fit_passes s m block room fit
     ∙ ap (λ b. cond (not b) 12 (cond (ltb room (symbols s)) 13 0)) is
     ∙ cond-false (ltb room (symbols s)) 13 0 (le-ltb room (symbols s) long))
-
-not_eleven : (f b short : Bool) → f ≡ true → ◌≡◌ {A = ℕ} (cond (not f) 11 (cond (not b) 12 (cond short 13 0))) 11 → ⊥
-not_eleven true true true t e = omega arith
-not_eleven true true false t e = omega arith
-not_eleven true false short t e = omega arith
-not_eleven false b short t e = let z : ◌≡◌ {A = ℕ} 0 1 = cc in omega arith
-
--- a scrambler that fits is never refused
-pub never_unfit : (s : Scheme) (m : Meaning) (block : List ℕ) (room answer : ℕ) → answer ≡ send_answer s m block room → fits s m ≡ true → answer ≡ 11 → ⊥
-never_unfit s m block room answer e fit is = not_eleven (fits s m) (is_block s block) (ltb room (symbols s)) fit (sym e ∙ is)

@@ -4,10 +4,9 @@ use Rattle.std.proofs.Common.{◌≡◌, ℕ, ◌+◌, ◌*◌, ◌/◌, ◌%◌
 use native.Mathlib.Nat.{mod-add-mod, mul-div_cancel, zero-div, suc-mul, div-mul-le_self}
 use Rattle.std.proofs.Math.Arith.{mod-mul}
 use Rattle.std.proofs.lemmas.Nat.{mod_below, div-add-mod'}
-use Rattle.std.proofs.lemmas.Bool.{and_parts, leb-true, lt-ltb, le-ltb, lt-leb, cond-true, cond-false}
+use Rattle.std.proofs.lemmas.Bool.{and_parts, leb-true, lt-ltb, cond-true}
 use Rattle.plan.specs.Scheme.{Scheme, sent_length}
 use Rattle.plan.proofs.Facts.{Facts}
-use Rattle.code.specs.Answers.{fetch_answer}
 use Rattle.scrambler.specs.Meaning.{Meaning, reach, value_at}
 use Rattle.sender.specs.Scrambling.{needed_width, fits}
 use Rattle.sender.specs.Transmission.{symbols, value_for}
@@ -41,9 +40,3 @@ value_found s m low fit i place e =
     let long = leb-true s.frame (reach m) (and_parts (eqb m.width (needed_width s.bits)) (leb s.frame (reach m)) fit).1 in
     let below = mod_below i s.frame low in
     ap (value_at m) e ∙ cond-true (ltb (i % s.frame) (reach m)) _ _ (lt-ltb (i % s.frame) (reach m) (omega arith))
-
--- a symbol of a whole array is fetched
-pub fetched : (s : Scheme) (given i : ℕ) → given ≡ sent_length s → i < symbols s → fetch_answer s given i ≡ 0
-fetched s given i whole below =
-    cond-false (ltb given (sent_length s)) _ _ (le-ltb given (sent_length s) (omega arith))
-    ∙ cond-false (leb (symbols s) i) _ _ (lt-leb (symbols s) i below)

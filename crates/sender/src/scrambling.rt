@@ -7,22 +7,24 @@ use plan::Plan;
 use scrambler::Scrambler;
 
 // The on-air index of a symbol of so many bits, with a scrambler's value.
+#[tactic(auto, unfolding(crate::specs::Scrambling::scrambled))]
 pub fn scramble(bits: usize, symbol: u8, value: u8) -> u8
     ensures { result ≡ scrambled bits symbol value }
 {
     if bits <= 3 {
-        ((u16::from(symbol) + u16::from(value)) % 8) as u8
+        symbol.wrapping_add(value) % 8
     } else {
         symbol ^ value
     }
 }
 
 // The symbol of an on-air index, with the value that scrambled it.
+#[tactic(auto, unfolding(crate::specs::Scrambling::unscrambled))]
 pub fn unscramble(bits: usize, index: u8, value: u8) -> u8
     ensures { result ≡ unscrambled bits index value }
 {
     if bits <= 3 {
-        ((u16::from(index) + (8 - u16::from(value) % 8)) % 8) as u8
+        index.wrapping_sub(value) % 8
     } else {
         index ^ value
     }
@@ -32,7 +34,7 @@ pub fn unscramble(bits: usize, index: u8, value: u8) -> u8
 pub fn needed_width(bits: usize) -> usize
     ensures { result ≡ needed_width bits }
 {
-    if bits <= 3 { 3 } else { bits }
+    bits.max(3)
 }
 
 // Whether the scrambler has the width that the plan needs, and a value for every symbol of a frame.

@@ -1,4 +1,4 @@
-use Rattle.std.proofs.Common.{◌≡◌, ◌+◌, ◌%◌, ◌<◌, length, ap, ◌∙◌, sym, arith}
+use Rattle.std.proofs.Common.{◌≡◌, ◌+◌, ◌%◌, length, ap, ◌∙◌, sym, arith}
 use Rattle.plan.specs.Plans.{plan_scheme}
 use Rattle.code.proofs.Filled.{filled_more}
 use Rattle.sender.specs.Senders.{sender_index}

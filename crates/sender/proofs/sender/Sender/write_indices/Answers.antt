@@ -1,6 +1,5 @@
-use Rattle.std.proofs.Common.{◌≡◌, ◌+◌, ◌*◌, ◌/◌, ◌%◌, ◌≤◌, map, length, sym, refl, ap, ◌∙◌, subst, add-mul, arith}
+use Rattle.std.proofs.Common.{◌≡◌, ◌+◌, ◌*◌, ◌/◌, ◌%◌, ◌≤◌, length, sym, refl, ap, ◌∙◌, subst, add-mul, arith}
 use native.Mathlib.Nat.{mul-mod_left}
-use Rattle.std.specs.List.{range_with_len}
 use Rattle.plan.specs.Plans.{plan_scheme}
 use Rattle.plan.proofs.Facts.{facts}
 use Rattle.code.proofs.Filled.{Filled, filled_all}
