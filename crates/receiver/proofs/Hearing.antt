@@ -1,4 +1,4 @@
--- A hear that is answered yes to every question.
+-- A scrambler that fits is asked for once, when the receiver is made.
 -- Assumes nothing.
 use Rattle.std.proofs.Common.{◌≡◌, ℕ, Bool, true, false, cond, not, ltb, is_some, sym, ap, ◌∙◌, ⊎_elim, arith}
 use Rattle.std.proofs.lemmas.Bool.{cases_Bool}
@@ -9,9 +9,6 @@ use Rattle.receiver.specs.Views.{View}
 
 passes : {X : Type 0} (t : Bool) (x y : X) → t ≡ true → cond (not t) x y ≡ y
 passes t x y e = ap (λ b. cond (not b) x y) e
-
-pub hear_accepted : (v : View) (lent place index weight : ℕ) → view_fits v ≡ true → lent_enough v.scheme lent ≡ true → ltb place (symbols v.scheme) ≡ true → index_fits v.scheme index weight ≡ true → is_some (heard v place index) ≡ true → hear_answer v lent place index weight ≡ 0
-hear_accepted v lent place index weight a b c d e = passes _ 11 _ a ∙ passes _ 13 _ b ∙ passes _ 14 _ c ∙ passes _ 15 _ d ∙ passes _ 16 0 e
 
 fails : {X : Type 0} (t : Bool) (x y : X) → t ≡ false → cond (not t) x y ≡ x
 fails t x y e = ap (λ b. cond (not b) x y) e

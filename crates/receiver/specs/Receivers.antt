@@ -3,6 +3,7 @@
 use Rattle.plan.specs.Plans.{plan_scheme}
 use Rattle.plan.specs.declared.plan.Plan.{Plan}
 use Rattle.scrambler.specs.Meaning.{Meaning}
+use Rattle.scrambler.specs.declared.scrambler.Scrambler.{Ghosts}
 use Rattle.receiver.specs.Views.{View}
 use Rattle.receiver.specs.declared.receiver.Receiver.{Receiver}
 
@@ -11,5 +12,5 @@ abbrev pub view : Plan → Meaning → View
 view p m = record { scheme = plan_scheme p; meaning = m }
 
 -- the view of a receiver, by what its scrambler means
-abbrev pub view_of : {S : Type 0} → (S → Meaning) → Receiver S → View
+abbrev pub view_of : {S : Type 0} {g : Ghosts S} → (S → Meaning) → Receiver S g → View
 view_of meaning r = view r.plan (meaning r.scrambler)

@@ -1,7 +1,7 @@
--- A fault's number is not 0.
+-- A call that answers 0 was accepted.
 -- Assumes nothing.
-use Rattle.std.proofs.Common.{◌≡◌, arith}
-use Rattle.plan.specs.Faults.{plan_number, chain_number}
+use Rattle.std.proofs.Common.{◌≡◌, true, is_ok, Ok, Err, Result, refl, arith}
+use Rattle.plan.specs.Faults.{plan_number, chain_number, outcome}
 use Rattle.plan.specs.declared.fault.ChainFault.{ChainFault}
 use Rattle.plan.specs.declared.fault.ChainFault.TheVariants.{Plan, Row, Scrambler, Fit, Block, TooShort, Place, Index, Mapping, Location, OutOfMemory}
 use Rattle.plan.specs.declared.fault.PlanFault.{PlanFault}
@@ -29,3 +29,7 @@ positive Index e = omega arith
 positive Mapping e = omega arith
 positive Location e = omega arith
 positive OutOfMemory e = omega arith
+
+pub accepted : {X : Type 0} (r : Result X ChainFault) → outcome chain_number r ≡ 0 → is_ok r ≡ true
+accepted (Ok x) e = refl
+accepted (Err f) e = absurd (positive f e)

@@ -1,8 +1,8 @@
 // How a receiver is made, and what sets its values.
-ghost use Rattle.std.specs.Prelude.{◌≡◌, ◌<◌, ◌≤◌, true, length, is_ok, IfOk, if◌then◌else◌};
+ghost use Rattle.std.specs.Prelude.{◌≡◌, length, is_ok, IfOk, if◌then◌else◌};
 ghost use Rattle.plan.specs.Faults.{chain_number, outcome};
 ghost use Rattle.plan.specs.Plans.{plan_scheme};
-ghost use Rattle.receiver.specs.Calls.{view_fits, making_answer, hear_answer, note_answer, blank_answer};
+ghost use Rattle.receiver.specs.Calls.{making_answer, hear_answer, note_answer, blank_answer};
 ghost use Rattle.receiver.specs.Receivers.{view, view_of};
 ghost use Rattle.receiver.specs.Values.{after_making, after_hear, after_note, after_blank, heard};
 
@@ -77,26 +77,23 @@ impl<S: Scrambler + Drop> Receiver<S> {
         ensures after { memory.new ≡ (if is_ok result then after_hear (view_of S.meaning self.old) place index weight memory.old else memory.old) }
         ensures kept { view_of S.meaning self.new ≡ view_of S.meaning self.old }
     {
-        if !fits(&self.plan, &mut self.scrambler) {
-            return Err(ChainFault::Fit);
-        }
         check_memory(&self.plan, memory)?;
         let locations = locations(&self.plan, place)?;
         check_index(&self.plan, index, weight)?;
-        let Some(number) = number_heard(&self.plan, &mut self.scrambler, place, index) else {
+        let Some(number) = self.number_heard(place, index) else {
             return Err(ChainFault::Mapping);
         };
         set_bits(&mut memory[locations], number, weight);
         Ok(())
     }
-}
 
-// The number that a symbol's bits write, once the scrambling is off.
-fn number_heard<S: Scrambler>(plan: &Plan, scrambler: &mut S, place: usize, index: u8) -> Option<u8>
-    requires { view_fits (view plan.now (S.meaning scrambler.old)) ≡ true }
-    ensures value { result ≡ heard (view plan.now (S.meaning scrambler.old)) place index }
-    ensures kept { S.meaning scrambler.new ≡ S.meaning scrambler.old }
-{
-    let value = scrambler.value(place % plan.parts().frame_length).unwrap();
-    number_for(plan, unscramble(plan.parts().symbol_bits, index, value))
+    // The number that a symbol's bits write, once the scrambling is off.
+    fn number_heard(&mut self, place: usize, index: u8) -> Option<u8>
+        ensures value { result ≡ heard (view_of S.meaning self.old) place index }
+        ensures kept { view_of S.meaning self.new ≡ view_of S.meaning self.old }
+    {
+        let parts = self.plan.parts();
+        let value = self.scrambler.value(place % parts.frame_length).unwrap();
+        number_for(&self.plan, unscramble(parts.symbol_bits, index, value))
+    }
 }

@@ -27,8 +27,7 @@ returns-clause-after g c =
     let memory = c.args.memory.now in
     let run = c.in_ok-locations.ensures.run in
     let lent = leb-true (sent_length s) (length memory) c.in_ok-check_memory.ensures in
-    let found : Some c.in-Some.number ≡ heard (view plan m) c.args.place c.args.index =
-    sym c.in-Some.is ∙ c.number_heard.ensures.value ∙ ap (λ n. heard (view plan n) c.args.place c.args.index) c.fits.ensures.kept in
+    let found : Some c.in-Some.number ≡ heard (view plan m) c.args.place c.args.index = sym c.in-Some.is ∙ c.number_heard.ensures.value in
     run_set (λ q i. signed c.args.weight (bit_of q c.in-Some.number i)) memory c.set_bits.new.run c.in_ok-locations.locations.start c.in_ok-locations.locations.end
     _ s.bits run.0 run.1 (omega (arith, run.2, lent)) c.set_bits.ensures
     ∙ (λ x. with_values memory (c.args.place * s.bits) (λ i. signed c.args.weight (bit_of s.bits (unwrap_or (found x) 0) i)) s.bits)
