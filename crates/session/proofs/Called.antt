@@ -11,7 +11,6 @@ use Rattle.receiver.specs.Receivers.{view_of}
 use Rattle.receiver.specs.Views.{View}
 use Rattle.receiver.specs.declared.receiver.Receiver.{Receiver}
 use Rattle.scrambler.specs.Meanings.{table_meaning}
-use Rattle.scrambler.specs.declared.scrambler.Scrambler.{Ghosts}
 use Rattle.scrambler.specs.declared.table.Table.{Table}
 use Rattle.sender.proofs.Outcomes.{accepted as accepted_is_ok}
 use Rattle.session.specs.Held.{Held, asked, with_call, answer, accepted, after}
@@ -37,23 +36,27 @@ answers_there view o x number is = ap (λ p. asked (option_map view p) number) (
 abbrev pub holding : Option Scheme → Option View → List ℤ → Held
 holding plan receiver values = record { plan = plan; receiver = receiver; values = values }
 
-abbrev view : {g : Ghosts Table} → Receiver Table g → View
+-- a receiver whose scrambler is a table
+abbrev TableReceiver : Type 0
+TableReceiver = Receiver Table (record { meaning = table_meaning })
+
+abbrev view : TableReceiver → View
 view r = view_of table_meaning r
 
 -- what a call of the receiver answers and leaves, as the session sees it
-pub record Called {g : Ghosts Table} (s : Session) (y : Receiver Table g) (left : List ℤ) (number : View → List ℤ → ℕ) (f : View → List ℤ → List ℤ) (answered : ℕ) : Type 0 where
+pub record Called (s : Session) (y : TableReceiver) (left : List ℤ) (number : View → List ℤ → ℕ) (f : View → List ℤ → List ℤ) (answered : ℕ) : Type 0 where
   pub answer : answered ≡ asked (held s).receiver (λ v. number v (held s).values)
   pub after : holding (held s).plan (Some (view y)) left
       ≡ cond (eqb (asked (held s).receiver (λ v. number v (held s).values)) 0) (with_call (held s) (held s).receiver (λ v. f v (held s).values)) (held s)
 
-module _ {g : Ghosts Table} (plan : Option Scheme) (x y : Receiver Table g) (values left : List ℤ) (kept : view y ≡ view x) (n : ℕ) (changed : List ℤ) where
+module _ (plan : Option Scheme) (x y : TableReceiver) (values left : List ℤ) (kept : view y ≡ view x) (n : ℕ) (changed : List ℤ) where
   left_by : {R : Type 0} (r : Result R ChainFault) → outcome chain_number r ≡ n → left ≡ cond (is_ok r) changed values →
       holding plan (Some (view y)) left ≡ cond (eqb n 0) (holding plan (Some (view x)) changed) (holding plan (Some (view x)) values)
   left_by (Ok u) answered now = (λ i. holding plan (Some (kept i)) (now i)) ∙ sym (cond-true _ _ _ (eq-eqb n 0 (sym answered)))
   left_by (Err e) answered now =
       (λ i. holding plan (Some (kept i)) (now i)) ∙ sym (cond-false _ _ _ (ap (λ m. eqb m 0) (sym answered) ∙ fault_not_zero e))
 
-pub called : {g : Ghosts Table} (s : Session) (x y : Receiver Table g) (lent left : List ℤ) → s.receiver ≡ Some x → view y ≡ view x → lent ≡ vec_items s.memory →
+pub called : (s : Session) (x y : TableReceiver) (lent left : List ℤ) → s.receiver ≡ Some x → view y ≡ view x → lent ≡ vec_items s.memory →
     (number : View → List ℤ → ℕ) (f : View → List ℤ → List ℤ) {R : Type 0} (r : Result R ChainFault) →
     outcome chain_number r ≡ number (view x) lent → left ≡ cond (is_ok r) (f (view x) lent) lent → Called s y left number f (outcome chain_number r)
 called s x y lent left is kept same number f r answered now =
