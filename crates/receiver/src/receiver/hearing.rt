@@ -80,9 +80,7 @@ impl<S: Scrambler + Drop> Receiver<S> {
         check_memory(&self.plan, memory)?;
         let locations = locations(&self.plan, place)?;
         check_index(&self.plan, index, weight)?;
-        let Some(number) = self.number_heard(place, index) else {
-            return Err(ChainFault::Mapping);
-        };
+        let number = self.number_heard(place, index).ok_or(ChainFault::Mapping)?;
         set_bits(&mut memory[locations], number, weight);
         Ok(())
     }

@@ -1,4 +1,4 @@
-use Rattle.std.proofs.Common.{◌≡◌, length}
+use Rattle.std.proofs.Common.{◌≡◌}
 use Rattle.code.specs.Numbers.{bit_of}
 use Rattle.receiver.specs.Values.{signed, with_values}
 use Rattle.receiver.proofs.values.set_bits.Given as goal

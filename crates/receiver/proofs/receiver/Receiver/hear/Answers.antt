@@ -1,4 +1,4 @@
-use Rattle.std.proofs.Common.{◌≡◌, ◌*◌, length, Some, unwrap_or, sym, ap, ◌∙◌, arith}
+use Rattle.std.proofs.Common.{◌≡◌, ◌*◌, length, Some, unwrap_or, sym, ◌∙◌, arith}
 use borrow.Rule.Slice.PartMut.{mid_len}
 use Rattle.std.proofs.lemmas.Bool.{and_parts, leb-true}
 use Rattle.plan.specs.Plans.{plan_scheme}
@@ -27,7 +27,7 @@ returns-clause-after g c =
     let memory = c.args.memory.now in
     let run = c.in_ok-locations.ensures.run in
     let lent = leb-true (sent_length s) (length memory) c.in_ok-check_memory.ensures in
-    let found : Some c.in-Some.number ≡ heard (view plan m) c.args.place c.args.index = sym c.in-Some.is ∙ c.number_heard.ensures.value in
-    run_set (λ q i. signed c.args.weight (bit_of q c.in-Some.number i)) memory c.set_bits.new.run c.in_ok-locations.locations.start c.in_ok-locations.locations.end
+    let found : Some c.in_ok-number.number ≡ heard (view plan m) c.args.place c.args.index = sym c.in_ok-number.ensures.ok_part ∙ c.number_heard.ensures.value in
+    run_set (λ q i. signed c.args.weight (bit_of q c.in_ok-number.number i)) memory c.set_bits.new.run c.in_ok-locations.locations.start c.in_ok-locations.locations.end
     _ s.bits run.0 run.1 (omega (arith, run.2, lent)) c.set_bits.ensures
     ∙ (λ x. with_values memory (c.args.place * s.bits) (λ i. signed c.args.weight (bit_of s.bits (unwrap_or (found x) 0) i)) s.bits)
