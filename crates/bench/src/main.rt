@@ -1,39 +1,45 @@
 // The bench: reads lines from standard input, and answers each.
 #![tactic(auto)]
 
-use lines::{Line, answer_text};
-use session::Session;
+use lines::{Answer, Line, LineFault, answer_text};
+use session::{CommandRoom, Session};
 use std::io;
-use std::io::{BufReader, Read};
+use std::io::{BufReader, Bytes, Read};
 
-mod session;
+// Reads the next line, without its line feed. Whether there is one: no byte after the last line feed is no line.
+fn read_line<R: Read + Drop>(input: &mut Bytes<R>, line: &mut Line) -> io::Result<bool> {
+    line.clear();
+    for byte in input {
+        match byte? {
+            b'\n' => return Ok(true),
+            byte => line.push(byte)?,
+        }
+    }
+    Ok(!line.is_empty())
+}
 
 // Answers the line that has come in.
 fn answer(rt: &HostRuntime, session: &mut Session, line: &Line, number: u16) -> io::Result<()> {
-    let answer = session.answer(rt.alloc(), line, number);
+    let answer = match CommandRoom::new(rt.alloc()) {
+        Ok(room) => session.answer(rt.alloc(), line, number, room),
+        Err(fault) => Answer::Refused {
+            number: LineFault::from(fault).number(),
+            line: number,
+        },
+    };
     let text = answer_text(rt.alloc(), &answer)?;
     rt.print(text)
 }
 
 fn main(rt: HostRuntime) -> io::Result<()> {
-    let mut session = Session::new(rt.alloc());
+    let mut session = Session::new(rt.alloc())?;
     let mut line = Line::new(rt.alloc());
-    let mut number: u16 = 1;
-    for byte in BufReader::new(rt.alloc(), rt.stdin())?.bytes() {
-        let byte = byte?;
-        if byte != b'\n' {
-            line.push(byte)?;
-            continue;
+    let mut input = BufReader::new(rt.alloc(), rt.stdin())?.bytes();
+    // as many lines as 16 bits can count; what follows is ignored
+    for number in 1..=u16::MAX {
+        if !read_line(&mut input, &mut line)? {
+            break;
         }
-        answer(&rt, &mut session, &line, number)?;
-        line.clear();
-        // 65,535 lines are read, as many as 16 bits can count; what follows is ignored
-        let Some(next) = number.checked_add(1) else {
-            return Ok(());
-        };
-        number = next;
-    }
-    if !line.is_empty() {
         answer(&rt, &mut session, &line, number)?;
     }
     Ok(())
