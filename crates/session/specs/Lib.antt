@@ -1,4 +1,5 @@
 pub mod Sizes
 pub mod Held
 pub mod Sessions
+pub mod Obeying
 pub mod Said

@@ -18,9 +18,7 @@ mod tests {
     fn answers(heap: Global, lines: &[&str]) -> Result<String, Fail> {
         let mut session = Session::new(heap)?;
         let mut said = String::new(heap);
-        let mut number: u16 = 0;
-        for text in lines {
-            number = number.saturating_add(1);
+        for (text, number) in lines.iter().zip(1..=u16::MAX) {
             let mut line = Line::new(heap);
             for byte in text.bytes() {
                 line.push(byte)?;

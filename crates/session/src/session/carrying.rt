@@ -1,16 +1,20 @@
 // How a session carries a command out.
-ghost use Rattle.std.specs.Prelude.{◌≡◌, IfOk, None};
+ghost use Rattle.std.specs.Prelude.{◌≡◌, ℕ, List, ℤ, IfOk, None};
 ghost use Rattle.lines.specs.Faults.{line_number};
-ghost use Rattle.lines.specs.declared.command.Command.TheVariants.{Plan as PlanLine, Table as TableLine, Hear, Note, Blank, Look};
+ghost use Rattle.lines.specs.declared.command.Command.TheVariants.{Plan as PlanLine, Table as TableLine, Look};
 ghost use Rattle.plan.specs.Faults.{outcome};
 ghost use Rattle.session.specs.Held.{answer, after, Replies};
+ghost use Rattle.receiver.specs.Receivers.{view_of};
+ghost use Rattle.receiver.specs.Views.{View};
+ghost use Rattle.scrambler.specs.Meanings.{table_meaning};
+ghost use Rattle.session.specs.Obeying.{Obeys, Makes, Calls};
 ghost use Rattle.session.specs.Sessions.{held};
 
 use crate::command_room::CommandRoom;
-use crate::session::Session;
 use crate::session::looking::look;
+use crate::session::{MARKS, SCORES, Session, VALUES};
 use lines::{Answer, Command, LineFault, accept_plan};
-use plan::{ListRoom, Parts};
+use plan::{ChainFault, Parts};
 use receiver::Receiver;
 use scrambler::Table;
 use sender::needed_width;
@@ -21,15 +25,12 @@ impl Session {
     pub fn new(heap: Global) -> Result<Session, AllocError>
         ensures { IfOk result (λ s. ((held s).plan ≡ None) × ((held s).receiver ≡ None)) }
     {
-        let memory = vec![in heap; 0; 1024]?;
-        let scores = vec![in heap; 0; 512]?;
-        let marks = vec![in heap; 0; 8192]?;
         Ok(Session {
             plan: None,
             receiver: None,
-            memory,
-            scores,
-            marks,
+            memory: vec![in heap; 0; VALUES]?,
+            scores: vec![in heap; 0; SCORES]?,
+            marks: vec![in heap; 0; MARKS]?,
         })
     }
 
@@ -46,17 +47,17 @@ impl Session {
                 place,
                 index,
                 weight,
-            } => self.hear(place, index, weight),
-            Command::Note { location, value } => self.note(location, value),
-            Command::Blank { place } => self.blank(place),
+            } => self.call(|receiver, memory| receiver.hear(memory, place, index, weight)),
+            Command::Note { location, value } => self.call(|receiver, memory| receiver.note(
+                memory, location, value,
+            )),
+            Command::Blank { place } => self.call(|receiver, memory| receiver.blank(memory, place)),
             Command::Look => self.show(room),
         }
     }
 
     fn take_plan(&mut self, parts: Parts) -> Result<Answer, LineFault>
-        ensures answer { outcome line_number result ≡ answer (held self.old) (PlanLine parts) }
-        ensures after { held self.new ≡ after (held self.old) (PlanLine parts) }
-        ensures reply { IfOk result (λ a. Replies (held self.old) (PlanLine parts) a) }
+        ensures { Obeys (held self.old) (PlanLine parts) result (held self.new) }
     {
         let plan = accept_plan(parts)?;
         self.plan = Some(plan);
@@ -65,9 +66,7 @@ impl Session {
     }
 
     fn take_table(&mut self, values: Vec<u8>, room: CommandRoom) -> Result<Answer, LineFault>
-        ensures answer { outcome line_number result ≡ answer (held self.old) (TableLine values) }
-        ensures after { held self.new ≡ after (held self.old) (TableLine values) }
-        ensures reply { IfOk result (λ a. Replies (held self.old) (TableLine values) a) }
+        ensures { Obeys (held self.old) (TableLine values) result (held self.new) }
     {
         let Some(plan) = &self.plan else {
             return Err(LineFault::Order);
@@ -78,46 +77,24 @@ impl Session {
         Ok(Answer::Accepted)
     }
 
-    fn hear(&mut self, place: usize, index: u8, weight: u16) -> Result<Answer, LineFault>
-        ensures answer { outcome line_number result ≡ answer (held self.old) (Hear place index weight) }
-        ensures after { held self.new ≡ after (held self.old) (Hear place index weight) }
-        ensures reply { IfOk result (λ a. Replies (held self.old) (Hear place index weight) a) }
+    // Calls the receiver with the values, where there is one.
+    fn call<F: FnOnce(&mut Receiver<Table>, &mut [i16]) -> Result<(), ChainFault>>(
+        &mut self,
+        call: F,
+    ) -> Result<Answer, LineFault>
+        requires takes { F.IsAlwaysCallable call }
+        requires keeps { (x m r y n : _) → F.post call x m r y n → view_of table_meaning y.now ≡ view_of table_meaning x.now }
+        ensures { (number : View → List ℤ → ℕ) (leaves : View → List ℤ → List ℤ) → ((x m r y n : _) → F.post call x m r y n → Makes number leaves x.now m.now r n.now) → Calls number leaves (held self.old) result (held self.new) }
     {
         let Some(receiver) = &mut self.receiver else {
             return Err(LineFault::Order);
         };
-        receiver.hear(self.memory.as_mut_slice(), place, index, weight)?;
-        Ok(Answer::Accepted)
-    }
-
-    fn note(&mut self, location: usize, value: i16) -> Result<Answer, LineFault>
-        ensures answer { outcome line_number result ≡ answer (held self.old) (Note location value) }
-        ensures after { held self.new ≡ after (held self.old) (Note location value) }
-        ensures reply { IfOk result (λ a. Replies (held self.old) (Note location value) a) }
-    {
-        let Some(receiver) = &mut self.receiver else {
-            return Err(LineFault::Order);
-        };
-        receiver.note(self.memory.as_mut_slice(), location, value)?;
-        Ok(Answer::Accepted)
-    }
-
-    fn blank(&mut self, place: usize) -> Result<Answer, LineFault>
-        ensures answer { outcome line_number result ≡ answer (held self.old) (Blank place) }
-        ensures after { held self.new ≡ after (held self.old) (Blank place) }
-        ensures reply { IfOk result (λ a. Replies (held self.old) (Blank place) a) }
-    {
-        let Some(receiver) = &mut self.receiver else {
-            return Err(LineFault::Order);
-        };
-        receiver.blank(self.memory.as_mut_slice(), place)?;
+        call(receiver, self.memory.as_mut_slice())?;
         Ok(Answer::Accepted)
     }
 
     fn show(&mut self, room: CommandRoom) -> Result<Answer, LineFault>
-        ensures answer { outcome line_number result ≡ answer (held self.old) Look }
-        ensures after { held self.new ≡ after (held self.old) Look }
-        ensures reply { IfOk result (λ a. Replies (held self.old) Look a) }
+        ensures { Obeys (held self.old) Look result (held self.new) }
     {
         let Some(receiver) = &self.receiver else {
             return Err(LineFault::Order);

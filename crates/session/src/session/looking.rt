@@ -7,6 +7,7 @@ ghost use Rattle.receiver.specs.Receivers.{view_of};
 ghost use Rattle.scrambler.specs.Meanings.{table_meaning};
 ghost use Rattle.session.specs.Held.{Shows};
 
+use crate::session::{MARKS, SCORES, VALUES};
 use plan::ChainFault;
 use receiver::Receiver;
 use score::Total;
@@ -22,14 +23,14 @@ pub(crate) fn look(
     marks: &mut [u8],
 ) -> Result<u64, ChainFault>
     requires small { size_fits (plan_scheme receiver.now.plan) ≡ true }
-    requires values { length memory.now ≡ 1024 }
+    requires values { length memory.now ≡ VALUES }
     requires block { length block.old ≡ (plan_scheme receiver.now.plan).block }
-    requires scores { length scores.old ≡ 512 }
-    requires marks { length marks.old ≡ 8192 }
+    requires scores { length scores.old ≡ SCORES }
+    requires marks { length marks.old ≡ MARKS }
     ensures answer { outcome chain_number result ≡ 0 }
     ensures shows { IfOk result (λ score. Shows (view_of table_meaning receiver.now) memory.now score block.new) }
 {
-    let (first, second) = scores.split_at_mut(256);
+    let (first, second) = scores.split_at_mut(SCORES / 2);
     let mut old = Column { scores: first };
     let mut new = Column { scores: second };
     receiver.look(&Total, memory, block, &mut old, &mut new, marks)
