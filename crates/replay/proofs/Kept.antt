@@ -1,13 +1,14 @@
 -- The memory that is lent holds the ledger in front, and past it what it held.
 -- Assumes nothing.
-use Rattle.std.proofs.Common.{◌≡◌, ℕ, suc, ◌+◌, ◌<◌, ◌≤◌, min, Bool, true, false, cond, not, ltb, List, [], ◌∷◌, ◌++◌, length, get_or, take, drop, replicate, ℤ, pos, is_ok, Ok, Err, Result, sym, refl, ap, ◌∙◌, arith}
+use Rattle.std.proofs.Common.{◌≡◌, ℕ, suc, ◌+◌, ◌<◌, ◌≤◌, min, Bool, true, false, cond, not, eqb, ltb, List, [], ◌∷◌, ◌++◌, length, get_or, take, drop, replicate, ℤ, pos, is_ok, Ok, Err, Result, sym, refl, ap, ◌∙◌, arith}
 use Rattle.std.proofs.lemmas.List.{length-take-le, length-replicate, get_or-replicate, drop-set-lt, same_lists, take-append-drop}
-use Rattle.std.proofs.lemmas.Bool.{and_parts, cond_both, eqb-true, leb-true, ltb-true}
+use Rattle.std.proofs.lemmas.Bool.{and_parts, cond_both, eqb-true, eq-eqb, ne_eqb, false≢true, leb-true, ltb-true}
 use Rattle.plan.specs.Faults.{chain_number, outcome}
 use Rattle.plan.specs.declared.fault.ChainFault.{ChainFault}
 use Rattle.plan.specs.Scheme.{Scheme, sent_length}
 use Rattle.plan.proofs.Facts.{Facts}
 use Rattle.sender.specs.Transmission.{symbols}
+use Rattle.sender.proofs.Outcomes.{accepted as ok_said}
 use Rattle.search.specs.Looking.{Lengths, long_enough, search_answer}
 use Rattle.receiver.specs.Calls.{view_fits, lent_enough, note_fits, hear_answer, note_answer, blank_answer}
 use Rattle.receiver.specs.Values.{with_values, after_making}
@@ -26,6 +27,11 @@ yes_then false n rest e = absurd (omega arith)
 pub yes_only : (b : Bool) → ◌≡◌ {A = ℕ} (cond b 0 13) 0 → b ≡ true
 yes_only true e = refl
 yes_only false e = absurd (omega arith)
+
+-- a call is accepted where its number is 0
+said_by : {X : Type 0} (r : Result X ChainFault) (n : ℕ) → outcome chain_number r ≡ n → is_ok r ≡ eqb n 0
+said_by (Ok x) n e = sym (eq-eqb n 0 (sym e))
+said_by (Err fault) n e = sym (ap (λ m. eqb m 0) (sym e) ∙ ne_eqb (chain_number fault) 0 (λ z. false≢true (ok_said {X = ℕ} (Err fault) z)))
 
 -- an accepted call is lent a value for each location, and its place exists
 pub hear_yes : (v : View) (lent place index weight : ℕ) → hear_answer v lent place index weight ≡ 0 → (sent_length v.scheme ≤ lent) × (place < symbols v.scheme)
@@ -104,6 +110,10 @@ module _ (v : View) (f : Facts v.scheme) (whole : Lengths) where
   pub lent_back : {X : Type 0} (c : Call) (r : Result X ChainFault) (n : ℕ) (memory front : List ℤ) → n ≡ min (memory_lent c) whole.values → outcome chain_number r ≡ answer v whole c → front ≡ cond (is_ok r) (changed v whole c (take n memory)) (take n memory) → front ++ drop n memory ≡ cond (is_ok r) (changed v whole c memory) memory
   lent_back c (Ok x) n memory front long e is = lent_front c n memory front (sym e) (omega (arith, lent_yes c (sym e))) is
   lent_back c (Err fault) n memory front long e is = ap (λ l. l ++ drop n memory) is ∙ take-append-drop n memory
+
+  -- and so the whole memory is as after the call
+  pub lent_after : {X : Type 0} (c : Call) (r : Result X ChainFault) (n : ℕ) (memory front : List ℤ) → n ≡ min (memory_lent c) whole.values → outcome chain_number r ≡ answer v whole c → front ≡ cond (is_ok r) (changed v whole c (take n memory)) (take n memory) → front ++ drop n memory ≡ after v whole c memory
+  lent_after {X} c r n memory front long e is = lent_back c r n memory front long e is ∙ ap (λ b. cond b (changed v whole c memory) memory) (said_by r (answer v whole c) e)
 
   all_front : (calls : List Call) (n : ℕ) (memory : List ℤ) → take n (after_all v whole calls memory) ≡ after_all v whole calls (take n memory)
   all_front [] n memory = refl

@@ -8,24 +8,15 @@ ghost use Rattle.replay.specs.Given.{given};
 ghost use Rattle.replay.specs.Ledger.{answer, answers as all_answers, after, after_all};
 
 use crate::call::Call;
-use crate::lending::{blank_lent, hear_lent, note_lent};
+use crate::lending::call_lent;
 use crate::looking::look_lent;
 use plan::ChainFault;
 use receiver::Receiver;
 use score::Kind;
 use scrambler::Scrambler;
 
-// The answer alone, without what was shown.
-fn answer_of<T: Copy>(shown: Result<T, ChainFault>) -> Result<(), ChainFault>
-    ensures { outcome chain_number result ≡ outcome chain_number shown }
-{
-    match shown {
-        Ok(_) => Ok(()),
-        Err(fault) => Err(fault),
-    }
-}
-
 // Carries out one call. A look writes nothing where one that is lent everything would be refused.
+// The memories are four parameters: were they `&mut` fields, each clause would have to say too that a field lends the same memory still.
 fn carry_out<S: Scrambler + Drop, K: Kind>(
     receiver: &mut Receiver<S>,
     kind: &K,
@@ -48,16 +39,31 @@ fn carry_out<S: Scrambler + Drop, K: Kind>(
             place,
             index,
             weight,
-        } => hear_lent(receiver, memory, lent, place, index, weight),
+        } => call_lent(
+            receiver,
+            memory,
+            lent,
+            |r, part| r.hear(part, place, index, weight),
+        ),
         Call::Note {
             lent,
             location,
             value,
-        } => note_lent(receiver, memory, lent, location, value),
-        Call::Blank { lent, place } => blank_lent(receiver, memory, lent, place),
-        Call::Look { lent } => answer_of(look_lent(
-            receiver, kind, lent, memory, block, scores, marks,
-        )),
+        } => call_lent(
+            receiver,
+            memory,
+            lent,
+            |r, part| r.note(part, location, value),
+        ),
+        Call::Blank { lent, place } => call_lent(
+            receiver,
+            memory,
+            lent,
+            |r, part| r.blank(part, place),
+        ),
+        Call::Look { lent } => {
+            look_lent(receiver, kind, lent, memory, block, scores, marks).map(|_| ())
+        }
     }
 }
 

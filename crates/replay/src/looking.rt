@@ -36,20 +36,20 @@ pub(crate) fn look_lent<'a, S: Scrambler + Drop, K: Kind>(
     let states = lent.old.min(first.len());
     let ends = lent.new.min(second.len());
     let mut old = Column {
-        scores: &mut first[0..states],
+        scores: &mut first[..states],
     };
     let mut new = Column {
-        scores: &mut second[0..ends],
+        scores: &mut second[..ends],
     };
     let values = lent.memory.min(memory.len());
     let size = lent.block.min(block.len());
     let bytes = lent.marks.min(marks.len());
     receiver.look(
         kind,
-        &memory[0..values],
-        &mut block[0..size],
+        &memory[..values],
+        &mut block[..size],
         &mut old,
         &mut new,
-        &mut marks[0..bytes],
+        &mut marks[..bytes],
     )
 }

@@ -1,6 +1,5 @@
 use Rattle.std.proofs.Common.{◌≡◌, ◌-◌, ◌/◌, ◌<◌, ◌≤◌, ◌++◌, min, length, drop, ap, ◌∙◌, arith}
 use Rattle.std.proofs.lemmas.List.{take-append-drop}
-use native.Mathlib.Nat.{sub-zero}
 use Rattle.plan.proofs.Facts.{facts}
 use Rattle.plan.specs.Faults.{chain_number, outcome}
 use Rattle.plan.specs.Plans.{plan_scheme}
@@ -20,25 +19,25 @@ returns g c =
     let block = a.block.now in
     let whole = given values block a.scores.now a.marks.now in
     let l = lent_of whole a.lent in
-    let count = c.min-values.result - 0 in
-    let n = c.min-size.result - 0 in
-    let lent_values : count ≡ min a.lent.memory (length values) = sub-zero c.min-values.result ∙ c.min-values.ensures in
-    let lent_block : n ≡ min a.lent.block (length block) = sub-zero c.min-size.result ∙ c.min-size.ensures in
-    let lent_marks : c.min-bytes.result - 0 ≡ min a.lent.marks (length a.marks.now) = sub-zero c.min-bytes.result ∙ c.min-bytes.ensures in
+    let count = c.min-values.result in
+    let n = c.min-size.result in
+    let lent_values : count ≡ min a.lent.memory (length values) = c.min-values.ensures in
+    let lent_block : n ≡ min a.lent.block (length block) = c.min-size.ensures in
+    let lent_marks : c.min-bytes.result ≡ min a.lent.marks (length a.marks.now) = c.min-bytes.ensures in
     let first = c.split_at_mut-first.result.0.now in
     let second = c.split_at_mut-first.result.1.now in
     let scores = length a.scores.now in
-    let old_part : c.min-states.result - 0 ≡ min a.lent.old (length first) = sub-zero c.min-states.result ∙ c.min-states.ensures in
-    let new_part : c.min-ends.result - 0 ≡ min a.lent.new (length second) = sub-zero c.min-ends.result ∙ c.min-ends.ensures in
+    let old_part : c.min-states.result ≡ min a.lent.old (length first) = c.min-states.ensures in
+    let new_part : c.min-ends.result ≡ min a.lent.new (length second) = c.min-ends.ensures in
     let rest : length second ≡ scores - scores / 2 = omega (arith, c.split_at_mut-first.ensures.back_len) in
     let answered : outcome chain_number c.look.result ≡ search_answer s l =
     c.look.ensures.answer
     ∙ (λ x. search_answer s (record {
       values = part_long count a.lent.memory values lent_values x;
       block = part_long n a.lent.block block lent_block x;
-      old = (part_long (c.min-states.result - 0) a.lent.old first old_part ∙ ap (min a.lent.old) c.split_at_mut-first.ensures.front_len) x;
-      new = (part_long (c.min-ends.result - 0) a.lent.new second new_part ∙ ap (min a.lent.new) rest) x;
-      marks = part_long (c.min-bytes.result - 0) a.lent.marks a.marks.now lent_marks x;
+      old = (part_long c.min-states.result a.lent.old first old_part ∙ ap (min a.lent.old) c.split_at_mut-first.ensures.front_len) x;
+      new = (part_long c.min-ends.result a.lent.new second new_part ∙ ap (min a.lent.new) rest) x;
+      marks = part_long c.min-bytes.result a.lent.marks a.marks.now lent_marks x;
     })) in
     let low : 0 < s.block = omega (arith, (facts s a.receiver.now.plan.accepted).block_low) in
     let room : n ≤ length block = omega arith in
@@ -46,5 +45,5 @@ returns g c =
       answer = answered;
       found = found_back k s l n count values block c.look.new.block lent_block room lent_values low c.look.result answered c.look.ensures.block c.look.ensures.found;
       block = block_back k s l n count values block c.look.new.block lent_block room lent_values c.look.result answered c.look.ensures.block;
-      marks = λ e. ap (λ l. l ++ drop (c.min-bytes.result - 0) a.marks.now) (c.look.ensures.marks e) ∙ take-append-drop (c.min-bytes.result - 0) a.marks.now;
+      marks = λ e. ap (λ l. l ++ drop c.min-bytes.result a.marks.now) (c.look.ensures.marks e) ∙ take-append-drop c.min-bytes.result a.marks.now;
     }
