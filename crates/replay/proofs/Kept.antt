@@ -15,7 +15,7 @@ use Rattle.receiver.specs.Values.{with_values, after_making}
 use Rattle.receiver.specs.Views.{View}
 use Rattle.replay.specs.declared.call.Call.{Call}
 use Rattle.replay.specs.declared.call.Call.TheVariants.{Hear, Note, Blank, Look}
-use Rattle.replay.specs.Ledger.{lent_of, answer, accepted, changed, after, after_all, ledger}
+use Rattle.replay.specs.Ledger.{lent_of, values_lent, answer, accepted, changed, after, after_all, ledger}
 use Rattle.replay.proofs.Loaded.{symbol_ends}
 use Rattle.replay.proofs.Stretches.{take_of_set, with_long, with_inside, with_front, with_rest}
 
@@ -56,13 +56,6 @@ blank_yes s lent place e =
 pub look_yes : (s : Scheme) (l : Lengths) → search_answer s l ≡ 0 → sent_length s ≤ l.values
 look_yes s l e = leb-true _ _ (and_parts _ _ (and_parts _ _ (and_parts _ _ (and_parts _ _ (yes_only (long_enough s l) e)).0).0).0).0
 
--- the first values that a call is lent
-abbrev pub memory_lent : Call → ℕ
-memory_lent (Hear lent place index weight) = lent
-memory_lent (Note lent location value) = lent
-memory_lent (Blank lent place) = lent
-memory_lent (Look lent) = lent.memory
-
 -- the part that a call is lent is as long as it is lent
 pub part_long : {X : Type 0} (n lent : ℕ) (memory : List X) → n ≡ min lent (length memory) → length (take n memory) ≡ min lent (length memory)
 part_long n lent memory e = length-take-le n memory (omega arith) ∙ e
@@ -100,19 +93,19 @@ module _ (v : View) (f : Facts v.scheme) (whole : Lengths) where
       (λ x. (is ∙ sym (changed_front c n memory)) x ++ sym (changed_rest c n memory e h) x) ∙ take-append-drop n (changed v whole c memory)
 
   -- an accepted call is lent a value for each location
-  lent_yes : (c : Call) → answer v whole c ≡ 0 → locations ≤ min (memory_lent c) whole.values
+  lent_yes : (c : Call) → answer v whole c ≡ 0 → locations ≤ min (values_lent c) whole.values
   lent_yes (Hear lent place index weight) e = (hear_yes v _ place index weight e).0
   lent_yes (Note lent location value) e = (note_yes v.scheme _ location value e).0
   lent_yes (Blank lent place) e = (blank_yes v.scheme _ place e).0
   lent_yes (Look lent) e = look_yes v.scheme (lent_of whole lent) e
 
   -- a call that is lent the first n values: they change where it is accepted, and the rest stays
-  pub lent_back : {X : Type 0} (c : Call) (r : Result X ChainFault) (n : ℕ) (memory front : List ℤ) → n ≡ min (memory_lent c) whole.values → outcome chain_number r ≡ answer v whole c → front ≡ cond (is_ok r) (changed v whole c (take n memory)) (take n memory) → front ++ drop n memory ≡ cond (is_ok r) (changed v whole c memory) memory
+  pub lent_back : {X : Type 0} (c : Call) (r : Result X ChainFault) (n : ℕ) (memory front : List ℤ) → n ≡ min (values_lent c) whole.values → outcome chain_number r ≡ answer v whole c → front ≡ cond (is_ok r) (changed v whole c (take n memory)) (take n memory) → front ++ drop n memory ≡ cond (is_ok r) (changed v whole c memory) memory
   lent_back c (Ok x) n memory front long e is = lent_front c n memory front (sym e) (omega (arith, lent_yes c (sym e))) is
   lent_back c (Err fault) n memory front long e is = ap (λ l. l ++ drop n memory) is ∙ take-append-drop n memory
 
   -- and so the whole memory is as after the call
-  pub lent_after : {X : Type 0} (c : Call) (r : Result X ChainFault) (n : ℕ) (memory front : List ℤ) → n ≡ min (memory_lent c) whole.values → outcome chain_number r ≡ answer v whole c → front ≡ cond (is_ok r) (changed v whole c (take n memory)) (take n memory) → front ++ drop n memory ≡ after v whole c memory
+  pub lent_after : {X : Type 0} (c : Call) (r : Result X ChainFault) (n : ℕ) (memory front : List ℤ) → n ≡ min (values_lent c) whole.values → outcome chain_number r ≡ answer v whole c → front ≡ cond (is_ok r) (changed v whole c (take n memory)) (take n memory) → front ++ drop n memory ≡ after v whole c memory
   lent_after {X} c r n memory front long e is = lent_back c r n memory front long e is ∙ ap (λ b. cond b (changed v whole c memory) memory) (said_by r (answer v whole c) e)
 
   all_front : (calls : List Call) (n : ℕ) (memory : List ℤ) → take n (after_all v whole calls memory) ≡ after_all v whole calls (take n memory)

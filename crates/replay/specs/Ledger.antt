@@ -20,6 +20,13 @@ lent_of whole lent = record {
   marks = min lent.marks whole.marks;
 }
 
+-- the first values that a call is lent, where there are as many
+abbrev pub values_lent : Call → ℕ
+values_lent (Hear lent place index weight) = lent
+values_lent (Note lent location value) = lent
+values_lent (Blank lent place) = lent
+values_lent (Look lent) = lent.memory
+
 module _ (v : View) (whole : Lengths) where
   -- what a call of the list answers
   abbrev pub answer : Call → ℕ

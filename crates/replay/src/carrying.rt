@@ -5,15 +5,24 @@ ghost use Rattle.plan.specs.Plans.{plan_scheme};
 ghost use Rattle.receiver.specs.Receivers.{view_of};
 ghost use Rattle.search.specs.Looking.{search_answer};
 ghost use Rattle.replay.specs.Given.{given};
-ghost use Rattle.replay.specs.Ledger.{answer, answers as all_answers, after, after_all};
+ghost use Rattle.replay.specs.Ledger.{values_lent, answer, answers as all_answers, after, after_all};
 
 use crate::call::Call;
-use crate::lending::call_lent;
 use crate::looking::look_lent;
 use plan::ChainFault;
 use receiver::Receiver;
 use score::Kind;
 use scrambler::Scrambler;
+
+// How many values a call is lent, where there are as many.
+fn values_lent(call: Call) -> usize
+    ensures { result ≡ values_lent call }
+{
+    match call {
+        Call::Hear { lent, .. } | Call::Note { lent, .. } | Call::Blank { lent, .. } => lent,
+        Call::Look { lent } => lent.memory,
+    }
+}
 
 // Carries out one call. A look writes nothing where one that is lent everything would be refused.
 // The memories are four parameters: were they `&mut` fields, each clause would have to say too that a field lends the same memory still.
@@ -33,36 +42,23 @@ fn carry_out<S: Scrambler + Drop, K: Kind>(
     ensures marks { let w = given memory.old block.old scores.old marks.old in (search_answer (plan_scheme receiver.old.plan) w ≢ 0 → marks.new ≡ marks.old) }
     ensures kept { view_of S.meaning receiver.new ≡ view_of S.meaning receiver.old }
 {
+    let lent = values_lent(call).min(memory.len());
+    let part = &mut memory[..lent];
     match call {
         Call::Hear {
-            lent,
             place,
             index,
             weight,
-        } => call_lent(
-            receiver,
-            memory,
-            lent,
-            |r, part| r.hear(part, place, index, weight),
-        ),
+            ..
+        } => receiver.hear(part, place, index, weight),
         Call::Note {
-            lent,
             location,
             value,
-        } => call_lent(
-            receiver,
-            memory,
-            lent,
-            |r, part| r.note(part, location, value),
-        ),
-        Call::Blank { lent, place } => call_lent(
-            receiver,
-            memory,
-            lent,
-            |r, part| r.blank(part, place),
-        ),
+            ..
+        } => receiver.note(part, location, value),
+        Call::Blank { place, .. } => receiver.blank(part, place),
         Call::Look { lent } => {
-            look_lent(receiver, kind, lent, memory, block, scores, marks).map(|_| ())
+            look_lent(receiver, kind, lent, part, block, scores, marks).map(|_| ())
         }
     }
 }

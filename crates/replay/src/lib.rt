@@ -3,7 +3,6 @@
 
 mod call;
 mod carrying;
-mod lending;
 mod looking;
 mod replaying;
 
