@@ -1,4 +1,3 @@
-pub mod Sizes
 pub mod Held
 pub mod Sessions
 pub mod Obeying

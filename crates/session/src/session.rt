@@ -1,7 +1,9 @@
 // What is held between lines: a plan, the receiver that a table made by it, and memory for every plan that the bench takes.
-ghost use Rattle.std.specs.Prelude.{◌≡◌, true, vec_len};
+ghost use Rattle.std.specs.Prelude.{◌≡◌, true, IfSome, vec_len};
+ghost use Rattle.std.proofs.Props.{props};
+ghost use Rattle.lines.specs.Plans.{size_fits};
+ghost use Rattle.plan.specs.Plans.{plan_scheme};
 ghost use Rattle.session.specs.declared.session.TheConstants.{VALUES, SCORES, MARKS};
-ghost use Rattle.session.specs.Sizes.{small_plan as plan_is_small, small_receiver as receiver_is_small};
 
 use plan::Plan;
 use receiver::Receiver;
@@ -31,8 +33,8 @@ pub struct Session {
     // the two columns of a look
     scores: Vec<u64>,
     marks: Vec<u8>,
-    ghost small_plan: { plan_is_small plan ≡ true },
-    ghost small_receiver: { receiver_is_small receiver ≡ true },
+    ghost small_plan: { IfSome plan (λ p. size_fits (plan_scheme p) ≡ true) } by { Prim.hlevel props },
+    ghost small_receiver: { IfSome receiver (λ r. size_fits (plan_scheme r.plan) ≡ true) } by { Prim.hlevel props },
     ghost values: { vec_len memory ≡ VALUES },
     ghost columns: { vec_len scores ≡ SCORES },
     ghost marks_of_all: { vec_len marks ≡ MARKS },

@@ -1,4 +1,4 @@
-use Rattle.std.proofs.Common.{◌≡◌, ◌≤◌, true, vec_items, sym, ap, ◌∙◌, subst, arith}
+use Rattle.std.proofs.Common.{IfSome, ◌≡◌, ◌≤◌, true, vec_items, sym, ap, ◌∙◌, subst, arith}
 use Rattle.std.specs.Option.{option_map}
 use Rattle.std.specs.Vec.{with_items}
 use Rattle.std.proofs.lemmas.List.{with_items_is}
@@ -11,14 +11,13 @@ use Rattle.receiver.specs.Receivers.{view_of}
 use Rattle.scrambler.specs.Meanings.{table_meaning}
 use Rattle.session.specs.Held.{ShowsBest, Shows}
 use Rattle.session.specs.Sessions.{held}
-use Rattle.session.specs.Sizes.{small_receiver}
 use Rattle.session.proofs.Called.{answers_there, accepted_changes}
 use Rattle.session.proofs.session.Session.show.Goals as goal
 
 pub look-requires : goal.look-requires
 look-requires c =
     let s = plan_scheme c.in-Some.receiver.plan in
-    let small : size_fits s ≡ true = ap small_receiver (sym c.in-Some.is) ∙ c.args.self.now.small_receiver in
+    let small : size_fits s ≡ true = subst (λ o. IfSome o (λ r. size_fits (plan_scheme r.plan) ≡ true)) c.in-Some.is c.args.self.now.small_receiver in
     let low : s.block ≤ 256 = leb-true _ _ (and_parts _ _ small).0 in
     let asked = ap (λ p. p.parts.block_length) c.plan.ensures in
     let size = ap (λ p. p.block_length) c.parts.ensures in

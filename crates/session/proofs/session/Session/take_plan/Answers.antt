@@ -1,4 +1,4 @@
-use Rattle.std.proofs.Common.{refl, ap, ◌∙◌}
+use Rattle.std.proofs.Common.{ap, ◌∙◌}
 use Rattle.lines.specs.Plans.{size_fits}
 use Rattle.plan.specs.Parts.{scheme}
 use Rattle.session.proofs.Tabled.{accepted_small}
@@ -10,7 +10,7 @@ invariant_of-self c =
     let e = c.in_ok-plan.ensures in
     record {
       small_plan = ap size_fits e.made ∙ accepted_small (scheme c.args.parts) e.answer;
-      small_receiver = refl;
+      small_receiver = tt;
       values = s.values;
       columns = s.columns;
       marks_of_all = s.marks_of_all;

@@ -1,7 +1,8 @@
-use Rattle.std.proofs.Common.{◌≡◌, length, Some, vec_items, sym, refl, ap, ◌∙◌, arith}
+use Rattle.std.proofs.Common.{◌≡◌, true, length, IfSome, Some, vec_items, sym, refl, ap, ◌∙◌, subst, arith}
 use Rattle.std.specs.Option.{option_map}
 use Rattle.std.proofs.lemmas.List.{with_items_is}
 use Rattle.std.proofs.lemmas.Result.{err_from_is_err_and}
+use Rattle.lines.specs.Plans.{size_fits}
 use Rattle.lines.specs.declared.command.Command.TheVariants.{Table as TableLine}
 use Rattle.plan.specs.Plans.{plan_scheme}
 use Rattle.receiver.specs.Receivers.{view_of}
@@ -13,6 +14,19 @@ use Rattle.session.specs.Sessions.{held}
 use Rattle.session.proofs.Called.{holding, refused_keeps, accepted_changes}
 use Rattle.session.proofs.Tabled.{table_refused, table_made_then}
 use Rattle.session.proofs.session.Session.take_table.Goals as goal
+
+pub invariant_of-self-2 : goal.invariant_of-self-2
+invariant_of-self-2 c =
+    let s = c.args.self.now in
+    record {
+      small_plan = s.small_plan;
+      small_receiver =
+          ap (λ v. size_fits v.scheme) c.in_ok-receiver.ensures.made ∙ ap size_fits c.copy.ensures
+          ∙ subst (λ o. IfSome o (λ p. size_fits (plan_scheme p) ≡ true)) c.in-Some.is s.small_plan;
+      values = s.values;
+      columns = s.columns;
+      marks_of_all = s.marks_of_all;
+    }
 
 pub returns-in_err-table : goal.returns-in_err-table
 returns-in_err-table c =
