@@ -4,7 +4,7 @@
 ghost use Rattle.std.specs.Prelude.{◌≡◌, cond};
 ghost use Rattle.errors.specs.Errors.{differing, added, with_block};
 
-#[derive(Clone, Copy, Debug, PartialEq, Eq)]
+#[derive(Clone, Copy, Debug, Default, PartialEq, Eq)]
 pub struct Count {
     pub blocks: usize,
     pub bits: usize,
@@ -16,14 +16,8 @@ pub struct Count {
 pub fn differences(sent: &[u8], shown: &[u8]) -> usize
     ensures { result ≡ differing sent.now shown.now }
 {
-    let shared = sent.len().min(shown.len());
-    let mut count = 0;
-    for i in 0..shared {
-        if sent[i] != shown[i] {
-            count += 1;
-        }
-    }
-    count + (sent.len() - shared) + (shown.len() - shared)
+    let unequal = sent.iter().zip(shown).filter(|(a, b)| a != b).count();
+    unequal + sent.len().abs_diff(shown.len())
 }
 
 impl Count {
@@ -31,12 +25,7 @@ impl Count {
     pub fn none() -> Count
         ensures { result ≡ record { blocks = 0; bits = 0; bit_errors = 0; block_errors = 0 } }
     {
-        Count {
-            blocks: 0,
-            bits: 0,
-            bit_errors: 0,
-            block_errors: 0,
-        }
+        Count::default()
     }
 
     // Counts one block more.
