@@ -3,7 +3,7 @@ ghost use Rattle.std.specs.Prelude.{◌≡◌, false, is_ok, IfOk, nat_le};
 ghost use Rattle.channel.specs.Hearing.{Hearable};
 ghost use Rattle.plan.specs.Plans.{plan_scheme};
 
-use crate::decision::decide;
+use crate::decision::Candidates;
 use crate::generator::Generator;
 use crate::hearing::{Heard, PhasesOnly};
 use crate::noise::noise_amplitude;
@@ -26,17 +26,6 @@ const LEAST: f64 = 0.5;
 
 const MOST: f64 = 1.5;
 
-// The amplitude, kept within what it may be.
-fn kept_within(amplitude: f64) -> f64 {
-    if amplitude < LEAST {
-        LEAST
-    } else if amplitude > MOST {
-        MOST
-    } else {
-        amplitude
-    }
-}
-
 impl Air {
     // Air in which a symbol has so many decibels more power than the noise, before it fades.
     pub fn new(seed: u64, decibels: i8) -> Air
@@ -55,16 +44,14 @@ impl Air {
         ensures made { IfOk result (λ h. Hearable (plan_scheme plan.now).bits value h) }
         ensures refused { is_ok result ≡ false → self.new ≡ self.old }
     {
-        if plan.parts().symbol_bits > 3 {
-            return Err(PhasesOnly);
-        }
-        let received = self.carry(point_of(index));
-        Ok(decide(plan, value, received))
+        let candidates = Candidates::of(plan, value)?;
+        Ok(candidates.decide(self.carry(point_of(index))))
     }
 
     // A point as it arrives.
     fn carry(&mut self, sent: Point) -> Point {
-        self.amplitude = kept_within(self.amplitude + STEP * self.generator.draw_normal());
+        let walked = self.amplitude + STEP * self.generator.draw_normal();
+        self.amplitude = walked.clamp(LEAST, MOST);
         Point {
             x: sent.x * self.amplitude + self.noise * self.generator.draw_normal(),
             y: sent.y * self.amplitude + self.noise * self.generator.draw_normal(),

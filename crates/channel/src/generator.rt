@@ -49,8 +49,8 @@ impl Generator {
         ensures bits { out.new ≡ drawn_bits self.old.state (length out.old) }
         ensures after { self.new.state ≡ state_after (length out.old) self.old.state }
     {
-        for i in 0..out.len() {
-            out[i] = self.draw_bit();
+        for place in out.iter_mut() {
+            *place = self.draw_bit();
         }
     }
 
@@ -69,6 +69,7 @@ impl Generator {
         ensures same { IsPermutation places.old places.new }
         ensures after { self.new.state ≡ state_after (length places.old) self.old.state }
     {
+        // by index, since an exchange names both of its places by number
         for i in 0..places.len() {
             let other = i + self.draw_below(places.len() - i);
             places.swap(i, other);
@@ -87,8 +88,8 @@ impl Generator {
         ensures after { self.new.state ≡ state_after 12 self.old.state }
     {
         let mut sum = -6.0;
-        for _i in 0..12usize {
-            sum = sum + self.draw_fraction();
+        for _ in 0..12u8 {
+            sum += self.draw_fraction();
         }
         sum
     }

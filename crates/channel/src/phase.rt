@@ -1,4 +1,5 @@
 // The eight phases, as points of the plane at distance 1.
+use std::f64::consts::FRAC_1_SQRT_2;
 
 #[derive(Clone, Copy)]
 pub struct Point {
@@ -6,20 +7,17 @@ pub struct Point {
     pub y: f64,
 }
 
-// Half of the square root of 2.
-const SLANT: f64 = 0.7071067811865476;
-
 // The point of an on-air index, an eighth of a turn for each.
 pub(crate) fn point_of(index: u8) -> Point {
     let (x, y) = match index % 8 {
         0 => (1.0, 0.0),
-        1 => (SLANT, SLANT),
+        1 => (FRAC_1_SQRT_2, FRAC_1_SQRT_2),
         2 => (0.0, 1.0),
-        3 => (-SLANT, SLANT),
+        3 => (-FRAC_1_SQRT_2, FRAC_1_SQRT_2),
         4 => (-1.0, 0.0),
-        5 => (-SLANT, -SLANT),
+        5 => (-FRAC_1_SQRT_2, -FRAC_1_SQRT_2),
         6 => (0.0, -1.0),
-        _ => (SLANT, -SLANT),
+        _ => (FRAC_1_SQRT_2, -FRAC_1_SQRT_2),
     };
     Point { x, y }
 }

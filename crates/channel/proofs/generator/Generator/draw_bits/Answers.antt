@@ -4,26 +4,26 @@ use Rattle.code.proofs.Filled.{filled_none, filled_more}
 use Rattle.channel.specs.Drawing.{stepped, state_after, drawn, drawn_bit}
 use Rattle.channel.proofs.generator.Generator.draw_bits.Goals as goal
 
-pub loop-i-init : goal.loop-i-init
-loop-i-init c = (refl, filled_none _ c.args.out.now)
+pub loop-place-init : goal.loop-place-init
+loop-place-init c = (refl, filled_none _ c.args.out.now)
 
-pub loop-i-preserved : goal.loop-i-preserved
+pub loop-place-preserved : goal.loop-place-preserved
 unfolding drawn_bit
-loop-i-preserved c =
+loop-place-preserved c =
     let seed = c.args.self.now.state in
-    let i = c.loop-i.i in
-    let bit : c.draw_bit.result ≡ drawn_bit seed i = c.draw_bit.ensures.value ∙ ap (λ s. drawn s / 2 ^ 63) c.loop-i.invariant.0 in (
-      c.draw_bit.ensures.after ∙ ap stepped c.loop-i.invariant.0 ∙ sym (ap (λ n. state_after n seed) (add-one i)),
-      filled_more (drawn_bit seed) i c.args.out.now c.loop-i.out _ c.loop-i.invariant.1 bit,
+    let i = c.loop-place.place-index in
+    let bit : c.draw_bit.result ≡ drawn_bit seed i = c.draw_bit.ensures.value ∙ ap (λ s. drawn s / 2 ^ 63) c.loop-place.invariant.0 in (
+      c.draw_bit.ensures.after ∙ ap stepped c.loop-place.invariant.0 ∙ sym (ap (λ n. state_after n seed) (add-one i)),
+      filled_more (drawn_bit seed) i c.args.out.now c.loop-place.out _ c.loop-place.invariant.1 bit,
     )
 
 pub returns : goal.returns
 returns c =
     let seed = c.args.self.now.state in
     let out = c.args.out.now in
-    let all : c.loop-i.i ≡ length out = omega (arith, c.loop-i.auto.i-end, c.loop-i-test.false) in
-    let filled = c.loop-i.invariant.1 in
+    let all : c.loop-place.place-index ≡ length out = omega (arith, c.loop-place.auto, c.loop-place-test.false) in
+    let filled = c.loop-place.invariant.1 in
     record {
-      bits = fill_by_all (drawn_bit seed) c.loop-i.out (length out) 0 filled.long (λ k lt. filled.front k 0 (omega (arith, all)) lt);
-      after = c.loop-i.invariant.0 ∙ ap (λ n. state_after n seed) all;
+      bits = fill_by_all (drawn_bit seed) c.loop-place.out (length out) 0 filled.long (λ k lt. filled.front k 0 (omega (arith, all)) lt);
+      after = c.loop-place.invariant.0 ∙ ap (λ n. state_after n seed) all;
     }

@@ -2,16 +2,16 @@ use Rattle.std.proofs.Common.{◌≡◌, sym, refl, ap, ◌∙◌, add-one, arit
 use Rattle.channel.specs.Drawing.{stepped, state_after}
 use Rattle.channel.proofs.generator.Generator.draw_normal.Goals as goal
 
-pub loop-i-init : goal.loop-i-init
-loop-i-init c = refl
+pub loop-init : goal.loop-init
+loop-init c = refl
 
-pub loop-i-preserved : goal.loop-i-preserved
-loop-i-preserved c =
+pub loop-preserved : goal.loop-preserved
+loop-preserved c =
     let seed = c.args.self.now.state in
-    c.draw_fraction-sum.ensures.after ∙ ap stepped c.loop-i.invariant ∙ sym (ap (λ n. state_after n seed) (add-one c.loop-i._i))
+    c.draw_fraction-sum.ensures.after ∙ ap stepped c.loop.invariant ∙ sym (ap (λ n. state_after n seed) (add-one c.loop.counter))
 
 pub returns : goal.returns
 returns c =
     let seed = c.args.self.now.state in
-    let all : c.loop-i._i ≡ 12 = omega (arith, c.loop-i-test.false, c.loop-i.auto) in
-    record { after = c.loop-i.invariant ∙ ap (λ n. state_after n seed) all }
+    let all : c.loop.counter ≡ 12 = omega (arith, c.loop-test.false, c.loop.auto) in
+    record { after = c.loop.invariant ∙ ap (λ n. state_after n seed) all }

@@ -3,5 +3,5 @@ use Rattle.channel.specs.Drawing.{state_after}
 use Rattle.channel.proofs.generator.Generator.draw_normal.Given as goal
 
 -- i fractions are drawn
-abbrev pub invariant-loop-i : goal.invariant-loop-i
-invariant-loop-i l = l.self.state ≡ state_after l._i l.initial.self.state
+abbrev pub invariant-loop : goal.invariant-loop
+invariant-loop l = l.self.state ≡ state_after l.counter l.initial.self.state

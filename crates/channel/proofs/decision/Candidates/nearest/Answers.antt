@@ -1,5 +1,5 @@
 use Rattle.std.proofs.Common.{ℕ, ◌<◌, ◌∙◌, subst, ⊎_elim}
-use Rattle.channel.proofs.decision.nearest_of_all.Goals as goal
+use Rattle.channel.proofs.decision.Candidates.nearest.Goals as goal
 
 pub loop-number-preserved : goal.loop-number-preserved
 loop-number-preserved c =
@@ -8,5 +8,5 @@ loop-number-preserved c =
     let Below : ℕ → Type 0 = λ n. number < n in
     ⊎_elim
     (λ e. (before.0, before.1, e ∙ before.2))
-    (λ e. (number, subst Below c.numbers_of-number-end.ensures c.loop-number-test.true, e ∙ c.index_of-index.ensures))
-    c.nearer-best.ensures
+    (λ e. (number, subst Below c.count-number-end.ensures c.loop-number-test.true, e ∙ c.index_of-index.ensures))
+    c.with-best.ensures
