@@ -1,25 +1,12 @@
 // A list of calls on a small plan, run.
 #![tactic(auto)]
 
-use plan::{ChainFault, Parts, Plan};
+use plan::ChainFault;
 use replay::{Call, Lent, Replayed, replay};
+use samples::small_plan;
 use score::Total;
 use scrambler::Table;
 use std::alloc::Global;
-
-// A plan of nine bits that sends twelve, three to a symbol.
-fn small_plan(heap: Global) -> Result<Plan, ChainFault> {
-    let parts = Parts {
-        constraint: 7,
-        period: 3,
-        send_list: vec![in heap; 0, 1, 2, 5]?,
-        block_length: 9,
-        symbol_bits: 3,
-        frame_length: 4,
-        increment: 5,
-    };
-    Ok(Plan::new(parts)?)
-}
 
 // Replays the calls, with one value and one byte more than the plan needs.
 fn carry(
@@ -28,7 +15,7 @@ fn carry(
     memory: &mut [i16],
     block: &mut [u8],
 ) -> Result<Replayed<u64>, ChainFault> {
-    let plan = small_plan(heap)?;
+    let plan = small_plan(heap, 7)?;
     let table = Table::new(3, vec![in heap; 1, 2, 3, 4]?)?;
     let mut scores = [0; 128];
     let mut marks = [0; 72];
@@ -59,15 +46,6 @@ mod tests {
         }
     }
 
-    fn number(answer: Result<(), ChainFault>) -> u8 {
-        match answer {
-            Ok(()) => 0,
-            Err(ChainFault::TooShort) => 13,
-            Err(ChainFault::Place) => 14,
-            Err(_) => 255,
-        }
-    }
-
     // The block 100000000 goes on the air as 6, 5, 3, 3; what is noted before is heard over, a refused call changes nothing.
     #[test]
     fn comes_back(rt: HostRuntime) -> Result<(), Fail> {
@@ -94,20 +72,15 @@ mod tests {
             Call::Look { lent: short },
             Call::Blank { lent: 11, place: 0 },
         ];
-        let Ok(done) = carry(rt.alloc(), &calls, &mut memory, &mut block) else {
-            return Err(Fail::new("refused"));
-        };
+        let done = carry(rt.alloc(), &calls, &mut memory, &mut block)?;
         let answers = done.answers.as_slice();
         assert_eq!(rt; answers.len(), 8);
-        assert_eq!(rt; number(answers[0]), 0);
-        assert_eq!(rt; number(answers[4]), 0);
-        assert_eq!(rt; number(answers[5]), 14);
-        assert_eq!(rt; number(answers[6]), 13);
-        assert_eq!(rt; number(answers[7]), 13);
-        let Ok(score) = done.shown else {
-            return Err(Fail::new("not shown"));
-        };
-        assert_eq!(rt; score, 0);
+        assert_eq!(rt; answers[0], Ok(()));
+        assert_eq!(rt; answers[4], Ok(()));
+        assert_eq!(rt; answers[5], Err(ChainFault::Place));
+        assert_eq!(rt; answers[6], Err(ChainFault::TooShort));
+        assert_eq!(rt; answers[7], Err(ChainFault::TooShort));
+        assert_eq!(rt; done.shown, Ok(0));
         assert_eq!(rt; memory[12], 9);
         assert_eq!(rt; block, [1, 0, 0, 0, 0, 0, 0, 0, 0, 7]);
         Ok(())

@@ -1,25 +1,12 @@
 // The search on small plans, run.
 #![tactic(auto)]
 
-use plan::{ChainFault, Parts, Plan};
+use plan::ChainFault;
+use samples::small_plan;
 use score::Total;
 use search::search;
 use std::alloc::Global;
 use trellis::Column;
-
-// A plan of nine bits that sends twelve.
-fn small_plan(heap: Global, constraint: usize) -> Result<Plan, ChainFault> {
-    let parts = Parts {
-        constraint,
-        period: 3,
-        send_list: vec![in heap; 0, 1, 2, 5]?,
-        block_length: 9,
-        symbol_bits: 3,
-        frame_length: 4,
-        increment: 5,
-    };
-    Ok(Plan::new(parts)?)
-}
 
 // Writes the block that fits the values best, and answers its score.
 fn look(
@@ -48,15 +35,8 @@ mod tests {
     #[test]
     fn one_value(rt: HostRuntime) -> Result<(), Fail> {
         let mut block = [7; 10];
-        let Ok(score) = look(
-            rt.alloc(),
-            7,
-            &[-5, 0, 0, 0, 0, 0, 0, 0, 0, 0, 0, 0],
-            &mut block,
-        ) else {
-            return Err(Fail::new("refused"));
-        };
-        assert_eq!(rt; score, 0);
+        let values = [-5, 0, 0, 0, 0, 0, 0, 0, 0, 0, 0, 0];
+        assert_eq!(rt; look(rt.alloc(), 7, &values, &mut block), Ok(0));
         assert_eq!(rt; block, [0, 0, 0, 0, 0, 0, 1, 0, 0, 7]);
         Ok(())
     }
@@ -65,15 +45,8 @@ mod tests {
     #[test]
     fn all_values(rt: HostRuntime) -> Result<(), Fail> {
         let mut block = [7; 9];
-        let Ok(score) = look(
-            rt.alloc(),
-            7,
-            &[-1, -1, 1, 1, -1, -1, 1, 1, -1, -1, 1, -1],
-            &mut block,
-        ) else {
-            return Err(Fail::new("refused"));
-        };
-        assert_eq!(rt; score, 0);
+        let values = [-1, -1, 1, 1, -1, -1, 1, 1, -1, -1, 1, -1];
+        assert_eq!(rt; look(rt.alloc(), 7, &values, &mut block), Ok(0));
         assert_eq!(rt; block, [1, 0, 0, 0, 0, 0, 0, 0, 0]);
         Ok(())
     }
@@ -82,9 +55,8 @@ mod tests {
     #[test]
     fn too_short(rt: HostRuntime) -> Result<(), Fail> {
         let mut block = [7; 9];
-        let Err(ChainFault::TooShort) = look(rt.alloc(), 9, &[0; 11], &mut block) else {
-            return Err(Fail::new("not refused"));
-        };
+        let answer = look(rt.alloc(), 9, &[0; 11], &mut block);
+        assert_eq!(rt; answer, Err(ChainFault::TooShort));
         assert_eq!(rt; block, [7; 9]);
         Ok(())
     }
