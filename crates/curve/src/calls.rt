@@ -32,11 +32,9 @@ impl OnAir<'_> {
 
     // The calls that hear every symbol once, in the order of sending, in which the air fades.
     fn hearings(&self, heap: Global, air: &mut Air) -> Result<Vec<Call>, Trouble> {
-        let mut hearings = Vec::new(heap);
-        for place in 0..self.indices.len() {
-            hearings.push(self.hearing(air, place)?)?;
-        }
-        Ok(hearings)
+        (0..self.indices.len())
+            .map(|place| self.hearing(air, place))
+            .try_collect(heap)
     }
 
     // The calls of one symbol: of 64, one is never heard, one is blanked, and eight are heard again.
@@ -75,10 +73,7 @@ impl OnAir<'_> {
 }
 
 fn shuffled_places(heap: Global, air: &mut Air, count: usize) -> Result<Vec<usize>, AllocError> {
-    let mut places = Vec::with_capacity(heap, count)?;
-    for place in 0..count {
-        places.push(place)?;
-    }
+    let mut places = (0..count).collect::<Vec<usize>>(heap)?;
     air.generator.shuffle(places.as_mut_slice());
     Ok(places)
 }

@@ -2,11 +2,7 @@
 
 // The remainder with a byte taken in, lowest bit first.
 fn taken_in(remainder: u32, byte: u8) -> u32 {
-    let mut now = remainder ^ u32::from(byte);
-    for _ in 0..8 {
-        now = shifted(now);
-    }
-    now
+    (0..8u8).fold(remainder ^ u32::from(byte), |now, _| shifted(now))
 }
 
 // The remainder after one shift.
@@ -19,9 +15,8 @@ fn shifted(remainder: u32) -> u32 {
 }
 
 pub(crate) fn crc32(bytes: &[u8]) -> u32 {
-    let mut remainder = u32::MAX;
-    for byte in bytes {
-        remainder = taken_in(remainder, *byte);
-    }
-    remainder ^ u32::MAX
+    bytes
+        .iter()
+        .fold(u32::MAX, |remainder, byte| taken_in(remainder, *byte))
+        ^ u32::MAX
 }

@@ -1,5 +1,6 @@
 // Which chain is run: a row of the standard, and a code.
-use rows::Row;
+use rows::{Interleaver, Row};
+use std::fmt;
 
 #[derive(Clone, Copy)]
 pub struct Choice {
@@ -30,6 +31,28 @@ impl Choice {
             },
             constraint: 7,
         }
+    }
+}
+
+// The numbers of the choice; as an alternate form, with the interleaver's name.
+impl fmt::Display for Choice {
+    fn fmt<W: fmt::Write>(&self, f: &mut fmt::Formatter<W>) -> fmt::Result {
+        let Choice { row, constraint } = *self;
+        let Row {
+            bandwidth,
+            waveform,
+            interleaver,
+        } = row;
+        write!(
+            f,
+            "{bandwidth} kHz, waveform {waveform}, interleaver {interleaver}"
+        )?;
+        if f.alternate() {
+            if let Ok(name) = Interleaver::try_from(interleaver) {
+                write!(f, " ({name})")?;
+            }
+        }
+        write!(f, ", constraint length {constraint}")
     }
 }
 

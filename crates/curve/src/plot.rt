@@ -43,7 +43,7 @@ pub(crate) fn show_plot(rt: &HostRuntime, choice: Choice, dots: &[Dot]) -> io::R
     print!(rt; "   less |")?;
     show_level(rt, dots, LEVELS.len())?;
     show_scale(rt, dots)?;
-    show_caption(rt, choice)
+    println!(rt; "{choice}: best possible decoding")
 }
 
 // A star for each dot that is on this level.
@@ -61,13 +61,7 @@ fn show_level(rt: &HostRuntime, dots: &[Dot], level: usize) -> io::Result<()> {
 
 // The first level that the rate reaches.
 fn level_of(rate: f64) -> usize {
-    let mut above = 0usize;
-    for level in &LEVELS {
-        if rate < *level {
-            above = above.saturating_add(1);
-        }
-    }
-    above
+    LEVELS.iter().filter(|level| rate < **level).count()
 }
 
 fn show_scale(rt: &HostRuntime, dots: &[Dot]) -> io::Result<()> {
@@ -77,14 +71,4 @@ fn show_scale(rt: &HostRuntime, dots: &[Dot]) -> io::Result<()> {
         print!(rt; "{decibels:>5}")?;
     }
     println!(rt; "")
-}
-
-fn show_caption(rt: &HostRuntime, choice: Choice) -> io::Result<()> {
-    let bandwidth = choice.row.bandwidth;
-    let waveform = choice.row.waveform;
-    let interleaver = choice.row.interleaver;
-    let constraint = choice.constraint;
-    println!(rt;
-        "{bandwidth} kHz, waveform {waveform}, interleaver {interleaver}, constraint length {constraint}: best possible decoding"
-    )
 }

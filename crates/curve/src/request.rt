@@ -4,6 +4,7 @@ ghost use Rattle.std.specs.Prelude.{◌≤◌, length};
 use crate::choice::{Choice, Run};
 use crate::trouble::Slip;
 use rows::Row;
+use std::str::FromStr;
 
 pub enum Request {
     // the standard's table
@@ -35,36 +36,32 @@ fn choice_of(words: &[String]) -> Result<Choice, Slip> {
         [] => Ok(Choice::usual()),
         [bandwidth, waveform, interleaver, constraint] => Ok(Choice {
             row: Row {
-                bandwidth: number(bandwidth, "bandwidth")?,
-                waveform: number(waveform, "waveform")?,
-                interleaver: number(interleaver, "interleaver")?,
+                bandwidth: number(bandwidth.as_str(), "bandwidth")?,
+                waveform: number(waveform.as_str(), "waveform")?,
+                interleaver: number(interleaver.as_str(), "interleaver")?,
             },
-            constraint: number(constraint, "constraint length")?,
+            constraint: number(constraint.as_str(), "constraint length")?,
         }),
         _ => Err(Slip::Count),
     }
 }
 
-// The whole number that an argument writes.
-fn number(word: &String, name: &'static str) -> Result<usize, Slip> {
-    match word.as_str().parse::<usize>() {
-        Ok(n) => Ok(n),
-        Err(_) => Err(Slip::Number(name)),
-    }
+// The number that a word writes, of the type that is asked for.
+fn number<T: FromStr>(word: &str, name: &'static str) -> Result<T, Slip>
+where
+    T::Err: Drop,
+{
+    word.parse::<T>().map_err(|_| Slip::Number(name))
 }
 
 // How many arguments stand before the options.
 fn numbers_in_front(words: &[String]) -> usize
     ensures { result ≤ length words.now }
 {
-    let mut count = 0usize;
-    for word in words {
-        if word.as_str().starts_with("--") {
-            break;
-        }
-        count = count.saturating_add(1);
-    }
-    count.min(words.len())
+    words
+        .iter()
+        .position(|word| word.as_str().starts_with("--"))
+        .unwrap_or(words.len())
 }
 
 fn run_of(words: &[String]) -> Result<Run, Slip> {
@@ -93,15 +90,10 @@ fn set_option(run: &mut Run, word: &str) -> Result<(), Slip> {
 
 fn set_number(run: &mut Run, name: &str, value: &str) -> Result<(), Slip> {
     match name {
-        "--from" => run.from = value.parse::<i8>().ok().ok_or(Slip::Number("first ratio"))?,
-        "--to" => run.to = value.parse::<i8>().ok().ok_or(Slip::Number("last ratio"))?,
-        "--blocks" => {
-            run.blocks = value
-                .parse::<usize>()
-                .ok()
-                .ok_or(Slip::Number("count of blocks"))?;
-        }
-        "--seed" => run.seed = value.parse::<u64>().ok().ok_or(Slip::Number("seed"))?,
+        "--from" => run.from = number(value, "first ratio")?,
+        "--to" => run.to = number(value, "last ratio")?,
+        "--blocks" => run.blocks = number(value, "count of blocks")?,
+        "--seed" => run.seed = number(value, "seed")?,
         _ => return Err(Slip::Word),
     }
     Ok(())

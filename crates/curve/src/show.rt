@@ -1,4 +1,6 @@
 // What a person reads.
+ghost use Rattle.std.specs.Prelude.{◌<◌};
+
 use crate::checksum::crc32;
 use crate::choice::{Choice, Run};
 use crate::counting::dots_of;
@@ -66,24 +68,8 @@ pub(crate) fn show_time(rt: &HostRuntime) -> Result<(), Trouble> {
     Ok(show_checksum(rt, sent.indices.as_slice())?)
 }
 
-pub(crate) fn interleaver_name(interleaver: usize) -> &'static str {
-    match interleaver {
-        0 => "ultra short",
-        1 => "short",
-        2 => "medium",
-        _ => "long",
-    }
-}
-
 fn show_choice(rt: &HostRuntime, choice: Choice) -> io::Result<()> {
-    let bandwidth = choice.row.bandwidth;
-    let waveform = choice.row.waveform;
-    let interleaver = choice.row.interleaver;
-    let name = interleaver_name(interleaver);
-    let constraint = choice.constraint;
-    println!(rt;
-        "{bandwidth} kHz, waveform {waveform}, interleaver {interleaver} ({name}), constraint length {constraint}"
-    )?;
+    println!(rt; "{choice:#}")?;
     let Some(entry) = choice.row.entry() else {
         return Ok(());
     };
@@ -105,7 +91,7 @@ fn show_plan(rt: &HostRuntime, plan: &Plan) -> io::Result<()> {
 
 fn show_block(rt: &HostRuntime, block: &[u8]) -> io::Result<()> {
     println!(rt; "block, drawn by the seed {SEED}:")?;
-    show_digits(rt, &block[0..block.len().min(SHOWN)])?;
+    show_values(rt, &block[0..block.len().min(SHOWN)], LINE, 1)?;
     if block.len() > SHOWN {
         let more = block.len() - SHOWN;
         println!(rt; "and {more} bits more")?;
@@ -118,36 +104,25 @@ fn show_frame(rt: &HostRuntime, plan: &Plan, indices: &[u8]) -> io::Result<()> {
     println!(rt; "first frame, on-air indices:")?;
     let frame = &indices[0..indices.len().min(plan.parts().frame_length)];
     if plan.parts().symbol_bits <= 3 {
-        show_digits(rt, frame)
+        show_values(rt, frame, LINE, 1)
     } else {
-        show_bytes(rt, frame)
+        show_values(rt, frame, LINE / 2, 2)
     }
 }
 
-fn show_digits(rt: &HostRuntime, digits: &[u8]) -> io::Result<()> {
-    for line in digits.chunks(LINE) {
-        show_line_of_digits(rt, line)?;
-    }
-    Ok(())
-}
-
-fn show_line_of_digits(rt: &HostRuntime, digits: &[u8]) -> io::Result<()> {
-    for digit in digits {
-        print!(rt; "{digit}")?;
-    }
-    println!(rt; "")
-}
-
-fn show_bytes(rt: &HostRuntime, bytes: &[u8]) -> io::Result<()> {
-    for line in bytes.chunks(LINE / 2) {
-        show_line_of_bytes(rt, line)?;
+// Values on lines of so many, each by so many digits of base sixteen.
+fn show_values(rt: &HostRuntime, values: &[u8], line: usize, digits: usize) -> io::Result<()>
+    requires { 0 < line }
+{
+    for part in values.chunks(line) {
+        show_line(rt, part, digits)?;
     }
     Ok(())
 }
 
-fn show_line_of_bytes(rt: &HostRuntime, bytes: &[u8]) -> io::Result<()> {
-    for byte in bytes {
-        print!(rt; "{byte:02X}")?;
+fn show_line(rt: &HostRuntime, values: &[u8], digits: usize) -> io::Result<()> {
+    for value in values {
+        print!(rt; "{value:0digits$X}")?;
     }
     println!(rt; "")
 }

@@ -11,15 +11,13 @@ const STEPS: usize = 100;
 
 // How many steps a rate stands below 1.
 fn steps_below(rate: f64) -> usize {
-    let mut at = 1.0;
-    let mut steps = 0usize;
-    for _ in 0..STEPS {
-        at = at * STEP;
-        if rate <= at {
-            steps = steps.saturating_add(1);
-        }
-    }
-    steps
+    (0..STEPS)
+        .scan(1.0, |at, _| {
+            *at *= STEP;
+            Some(*at)
+        })
+        .filter(|at| rate <= *at)
+        .count()
 }
 
 // The heights of the picture's lines, from its top.
@@ -32,6 +30,11 @@ fn across(column: usize) -> usize {
     column.saturating_mul(50).saturating_add(90)
 }
 
+// Where the dot of a column stands, from the left and from the top.
+fn place_of(column: usize, dot: &Dot) -> (usize, usize) {
+    (across(column), height(steps_below(dot.rate())))
+}
+
 pub(crate) fn show_svg(rt: &HostRuntime, choice: Choice, dots: &[Dot]) -> io::Result<()> {
     let wide = across(dots.len());
     println!(rt;
@@ -41,7 +44,9 @@ pub(crate) fn show_svg(rt: &HostRuntime, choice: Choice, dots: &[Dot]) -> io::Re
     show_lines(rt, wide)?;
     show_path(rt, dots)?;
     show_circles(rt, dots)?;
-    show_caption(rt, choice)?;
+    println!(rt;
+        "<text x=\"10\" y=\"20\">bit error rate, {choice}: best possible decoding</text>"
+    )?;
     println!(rt; "</svg>")
 }
 
@@ -62,8 +67,7 @@ fn show_lines(rt: &HostRuntime, wide: usize) -> io::Result<()> {
 fn show_path(rt: &HostRuntime, dots: &[Dot]) -> io::Result<()> {
     print!(rt; "<polyline fill=\"none\" stroke=\"black\" points=\"")?;
     for (i, dot) in dots.iter().enumerate() {
-        let x = across(i);
-        let y = height(steps_below(dot.rate()));
+        let (x, y) = place_of(i, dot);
         print!(rt; "{x},{y} ")?;
     }
     println!(rt; "\"/>")
@@ -71,22 +75,11 @@ fn show_path(rt: &HostRuntime, dots: &[Dot]) -> io::Result<()> {
 
 fn show_circles(rt: &HostRuntime, dots: &[Dot]) -> io::Result<()> {
     for (i, dot) in dots.iter().enumerate() {
-        let x = across(i);
-        let y = height(steps_below(dot.rate()));
+        let (x, y) = place_of(i, dot);
         let decibels = dot.decibels;
         println!(rt;
             "<circle cx=\"{x}\" cy=\"{y}\" r=\"4\"/><text x=\"{x}\" y=\"460\" text-anchor=\"middle\">{decibels} dB</text>"
         )?;
     }
     Ok(())
-}
-
-fn show_caption(rt: &HostRuntime, choice: Choice) -> io::Result<()> {
-    let bandwidth = choice.row.bandwidth;
-    let waveform = choice.row.waveform;
-    let interleaver = choice.row.interleaver;
-    let constraint = choice.constraint;
-    println!(rt;
-        "<text x=\"10\" y=\"20\">bit error rate, {bandwidth} kHz, waveform {waveform}, interleaver {interleaver}, constraint length {constraint}: best possible decoding</text>"
-    )
 }

@@ -43,11 +43,12 @@ pub(crate) fn run_trial(heap: Global, choice: Choice, air: &mut Air) -> Result<T
 // The register's values at the places of a frame.
 fn frame_values(heap: Global, plan: &Plan) -> Result<Vec<u8>, ChainFault> {
     let mut register = Register::new(needed_width(plan.parts().symbol_bits))?;
-    let mut values = Vec::new(heap);
-    for place in 0..plan.parts().frame_length {
-        values.push(register.value(place).unwrap_or(0))?;
-    }
-    Ok(values)
+    let places = 0..plan.parts().frame_length;
+    Ok(
+        places
+            .map(|place| register.value(place).unwrap_or(0))
+            .collect(heap)?,
+    )
 }
 
 // The block that fits the calls best, and its score. The receiver's scrambler is a table of the register's values.

@@ -17,11 +17,9 @@ fn block_of(number: u16) -> [u8; 9] {
 
 // The start number of a block: its first bits, the first one highest.
 fn start_of(block: &[u8], memory: usize) -> u16 {
-    let mut start = 0u16;
-    for bit in block.iter().take(memory) {
-        start = start.wrapping_mul(2).wrapping_add(u16::from(*bit));
-    }
-    start
+    block.iter().take(memory).fold(0u16, |start, bit| {
+        start.wrapping_mul(2).wrapping_add(u16::from(*bit))
+    })
 }
 
 // The block that scores best; of equals the one with the smaller start number, and then the smaller number with the last bit highest.
@@ -50,6 +48,7 @@ pub(crate) struct Agreement {
     pub block: bool,
 }
 
+// The search against the engine. One memory is lent for both columns: an array here has no known size, as the kind is open.
 pub(crate) fn compared<K: Kind>(
     plan: &Plan,
     kind: &K,
@@ -58,8 +57,7 @@ pub(crate) fn compared<K: Kind>(
 ) -> Agreement {
     let number = best_of_all(plan, kind, values).unwrap_or(0);
     let mut block = [0u8; 9];
-    let half = scores.len() / 2;
-    let (first, second) = scores.split_at_mut(half);
+    let (first, second) = scores.split_at_mut(scores.len() / 2);
     let mut old = Column { scores: first };
     let mut new = Column { scores: second };
     let shown = search(
@@ -84,7 +82,7 @@ pub(crate) fn compared<K: Kind>(
     }
 }
 
-// Whether each score is no worse than the other.
+// Whether each score is no worse than the other: a kind orders its scores, and has no equality beside that.
 fn are_equal<K: Kind>(kind: &K, a: K::Score, b: K::Score) -> bool {
     kind.no_worse(a, b) && kind.no_worse(b, a)
 }

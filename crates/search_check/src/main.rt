@@ -6,14 +6,14 @@ mod values;
 
 use crate::engine::compared;
 use crate::values::Values;
-use plan::{Parts, Plan};
+use plan::{ChainFault, Parts, Plan};
 use score::{CountFirst, Tally, Total, Worst};
 use std::alloc::Global;
 use std::io;
 
 // Nine bits in three runs of a send list of six entries, one of them named twice: eighteen bits are sent.
-fn small_plan(heap: Global, constraint: usize) -> Option<Plan> {
-    let send_list = vec![in heap; 0, 1, 2, 5, 4, 2].ok()?;
+fn small_plan(heap: Global, constraint: usize) -> Result<Plan, ChainFault> {
+    let send_list = vec![in heap; 0, 1, 2, 5, 4, 2]?;
     let parts = Parts {
         constraint,
         period: 3,
@@ -23,55 +23,53 @@ fn small_plan(heap: Global, constraint: usize) -> Option<Plan> {
         frame_length: 18,
         increment: 5,
     };
-    Plan::new(parts).ok()
+    Ok(Plan::new(parts)?)
 }
 
 // How many lists of values the search and the engine agreed on, by kind. Where weights add up, the block must be the same too:
 // among the best blocks the tie rule's is then the one with the smallest start number, and the last bit highest.
-#[derive(Clone, Copy)]
+#[derive(Clone, Copy, Default)]
 struct Agreed {
     total: u32,
     worst: u32,
     count_first: u32,
 }
 
-fn compare_list(plan: &Plan, values: &[i16], before: Agreed) -> Agreed {
-    let total = compared(plan, &Total, values, &mut [0u64; 512]);
-    let worst = compared(plan, &Worst, values, &mut [0u16; 512]);
-    let count_first = compared(plan, &CountFirst, values, &mut [Tally::Full; 512]);
-    Agreed {
-        total: before
+impl Agreed {
+    // Compares one list more.
+    fn add(&mut self, plan: &Plan, values: &[i16]) {
+        let total = compared(plan, &Total, values, &mut [0; 512]);
+        let worst = compared(plan, &Worst, values, &mut [0; 512]);
+        let count_first = compared(plan, &CountFirst, values, &mut [Tally::Full; 512]);
+        self.total = self
             .total
-            .saturating_add(u32::from(total.score && total.block)),
-        worst: before.worst.saturating_add(u32::from(worst.score)),
-        count_first: before
+            .saturating_add(u32::from(total.score && total.block));
+        self.worst = self.worst.saturating_add(u32::from(worst.score));
+        self.count_first = self
             .count_first
-            .saturating_add(u32::from(count_first.score && count_first.block)),
+            .saturating_add(u32::from(count_first.score && count_first.block));
     }
 }
 
 fn compare(plan: &Plan, lists: u32) -> Agreed {
     let mut drawn = Values::new();
-    let mut agreed = Agreed {
-        total: 0,
-        worst: 0,
-        count_first: 0,
-    };
+    let mut agreed = Agreed::default();
     for _ in 0..lists {
-        agreed = compare_list(plan, &drawn.draw(), agreed);
+        agreed.add(plan, &drawn.draw());
     }
     agreed
 }
 
 fn main(rt: HostRuntime) -> io::Result<()> {
     for constraint in [7, 9] {
-        let Some(plan) = small_plan(rt.alloc(), constraint) else {
+        let Ok(plan) = small_plan(rt.alloc(), constraint) else {
             return println!(rt; "the plan is refused");
         };
-        let agreed = compare(&plan, 100);
-        let total = agreed.total;
-        let worst = agreed.worst;
-        let count_first = agreed.count_first;
+        let Agreed {
+            total,
+            worst,
+            count_first,
+        } = compare(&plan, 100);
         println!(rt;
             "constraint length {constraint}, of 100 lists of values: Total {total}, Worst {worst}, Count-first {count_first} agree"
         )?;

@@ -1,5 +1,4 @@
-use Rattle.std.proofs.Common.{◌≡◌}
-use Rattle.code.proofs.Filled.{Filled}
+use Rattle.std.proofs.Common.{◌≡◌, ℕ, ◌<◌, get_or}
 use Rattle.channel.specs.Drawing.{state_after, drawn_bit}
 use Rattle.channel.proofs.generator.Generator.draw_bits.Given as goal
 
@@ -7,4 +6,4 @@ use Rattle.channel.proofs.generator.Generator.draw_bits.Given as goal
 abbrev pub invariant-loop-place : goal.invariant-loop-place
 invariant-loop-place l =
     (l.self.state ≡ state_after l.place-index l.initial.self.state)
-    × Filled (drawn_bit l.initial.self.state) l.place-index l.initial.out l.out
+    × ((k : ℕ) → k < l.place-index → get_or l.out k 0 ≡ drawn_bit l.initial.self.state k)
