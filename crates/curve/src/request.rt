@@ -65,10 +65,10 @@ fn numbers_in_front(words: &[String]) -> usize
 }
 
 fn run_of(words: &[String]) -> Result<Run, Slip> {
-    let front = numbers_in_front(words);
+    let (row, options) = words.split_at(numbers_in_front(words));
     let mut run = Run::usual();
-    run.choice = choice_of(&words[0..front])?;
-    for word in &words[front..] {
+    run.choice = choice_of(row)?;
+    for word in options {
         set_option(&mut run, word.as_str())?;
     }
     if run.from > run.to || run.blocks == 0 {
