@@ -15,12 +15,8 @@ loop-place-preserved c =
       λ k lt. ap (λ b. get_or (set out i b) k 0) bit ∙ fill_by_more (drawn_bit seed) out i 0 (omega arith) c.loop-place.invariant.1 k lt,
     )
 
-pub returns : goal.returns
-returns c =
-    let seed = c.args.self.now.state in
+pub returns-clause-bits : goal.returns-clause-bits
+returns-clause-bits c =
     let out = c.args.out.now in
     let all : c.loop-place.place-index ≡ length out = omega (arith, c.loop-place.auto, c.loop-place-test.false) in
-    record {
-      bits = fill_by_all (drawn_bit seed) c.loop-place.out (length out) 0 (omega arith) (λ k lt. c.loop-place.invariant.1 k (omega (arith, all)));
-      after = c.loop-place.invariant.0 ∙ ap (λ n. state_after n seed) all;
-    }
+    fill_by_all (drawn_bit c.args.self.now.state) c.loop-place.out (length out) 0 (omega arith) (λ k lt. c.loop-place.invariant.1 k (omega (arith, all)))

@@ -21,14 +21,3 @@ loop-i-preserved c =
       c.swap.ensures.after ∙ (λ x. swap (c.loop-i.invariant.1 x) i (i + drawn_one x)) ∙ sym (ap (λ n. exchanged_to seed n places) (add-one i)),
       IsPermutation-trans places c.loop-i.places _ c.loop-i.invariant.2 c.swap.ensures.permutation,
     )
-
-pub returns : goal.returns
-returns c =
-    let seed = c.args.self.now.state in
-    let places = c.args.places.now in
-    let all : c.loop-i.i ≡ length places = omega (arith, c.loop-i.auto.i-end, c.loop-i-test.false) in
-    record {
-      order = c.loop-i.invariant.1 ∙ ap (λ n. exchanged_to seed n places) all;
-      same = c.loop-i.invariant.2;
-      after = c.loop-i.invariant.0 ∙ ap (λ n. state_after n seed) all;
-    }
