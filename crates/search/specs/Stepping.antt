@@ -1,45 +1,34 @@
 -- What a step and a pass of the search mean.
 -- Assumes nothing.
-use Rattle.std.specs.Prelude.{◌≡◌, ℕ, ◌*◌, ◌/◌, ◌^◌, ◌≤◌, Bool, List, length}
+use Rattle.std.specs.Prelude.{ℕ, Bool, List}
 use Rattle.plan.specs.Plans.{plan_scheme}
 use Rattle.score.specs.Blocks.{value_at}
 use Rattle.score.specs.Gathered.{held_both}
 use Rattle.score.specs.Scale.{Scale}
+use Rattle.score.specs.declared.kind.Kind.{Ghosts}
 use Rattle.trellis.specs.Steps.{Steps}
 use Rattle.trellis.specs.Survivors.{way, next_mark, next}
-use Rattle.search.specs.Searching.{memory, steps, steps_with, column}
+use Rattle.search.specs.Searching.{steps, steps_with, column}
 use Rattle.search.specs.declared.pass.Pass.{Pass}
 use Rattle.search.specs.declared.step.Step.{Step}
 
-module _ {K S : Type 0} (k : Scale S) (step : Step K S) where
+module _ {K S : Type 0} {g : Ghosts K S} (k : Scale S) (step : Step K S g) where
   abbrev pub step_of : Steps S
-  step_of = steps_with k (plan_scheme step.plan.now).constraint (held_both step.values)
+  step_of = steps_with k (plan_scheme step.pass.now.plan.now).constraint (held_both step.values)
 
   -- from a column of scores, the score at a state by one way
   abbrev pub way_of : List S → ℕ → Bool → S
-  way_of scores s b = way step_of step.trellis.memory 0 (column k scores) s b
+  way_of scores s b = way step_of step.pass.now.trellis.memory 0 (column k scores) s b
 
   -- the bit that the surviving way into a state shifts out
   abbrev pub mark_of : List S → ℕ → Bool
-  mark_of scores s = next_mark step_of step.trellis.memory step.forced 0 (column k scores) s
+  mark_of scores s = next_mark step_of step.pass.now.trellis.memory step.forced 0 (column k scores) s
 
   -- the score of the surviving way into a state
   abbrev pub next_of : List S → ℕ → S
-  next_of scores s = next step_of step.trellis.memory step.forced 0 (column k scores) s
+  next_of scores s = next step_of step.pass.now.trellis.memory step.forced 0 (column k scores) s
 
-module _ {K S : Type 0} where
+module _ {K S : Type 0} {g : Ghosts K S} where
   -- the steps that a pass takes
-  abbrev pub steps_of : Scale S → Pass K S → Steps S
-  steps_of k pass = steps k (plan_scheme pass.plan.now) (value_at pass.memory.now)
-
-  -- the trellis of a pass is that of its plan
-  abbrev pub Fits : Pass K S → Type 0
-  Fits pass = (pass.trellis.memory ≡ memory (plan_scheme pass.plan.now)) × (pass.trellis.size ≡ (plan_scheme pass.plan.now).block)
-
-  -- a pass has a score for each state in this column
-  abbrev pub ColumnFits : Pass K S → List S → Type 0
-  ColumnFits pass scores = 2 ^ pass.trellis.memory ≤ length scores
-
-  -- a pass has a mark for each time and state in this memory
-  abbrev pub MarksFit : Pass K S → List ℕ → Type 0
-  MarksFit pass marks = pass.trellis.size * 2 ^ pass.trellis.memory / 8 ≤ length marks
+  abbrev pub steps_of : Scale S → Pass K S g → Steps S
+  steps_of k pass = steps k (plan_scheme pass.plan.now) (value_at pass.values.now)

@@ -6,7 +6,7 @@ ghost use Rattle.plan.specs.Plans.{plan_scheme};
 ghost use Rattle.score.specs.Blocks.{value_at};
 ghost use Rattle.search.specs.Looking.{Found, shown, lengths, long_enough, search_answer};
 
-use crate::pass::Pass;
+use crate::pass::{Pass, Workspace};
 use plan::{ChainFault, Plan};
 use score::Kind;
 use trellis::{Column, Trellis};
@@ -35,10 +35,16 @@ pub fn search<'a, 'c, K: Kind>(
     let pass = Pass {
         plan,
         kind,
-        memory: values,
+        values,
         trellis: Trellis::of(plan),
     };
-    Ok(pass.pick(block, old, new, marks))
+    let mut workspace = Workspace {
+        pass: &pass,
+        before: old,
+        after: new,
+        marks,
+    };
+    Ok(workspace.pick(block))
 }
 
 // Whether every memory is long enough.

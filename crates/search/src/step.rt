@@ -2,16 +2,13 @@
 mod column;
 mod ways;
 
-use plan::Plan;
+use crate::pass::Pass;
 use score::{Kind, StepValues};
-use trellis::Trellis;
 
 // A step of a pass: the values that it takes, and the bit that it must shift out, if one is forced.
 #[derive(Drop)]
-pub(crate) struct Step<'a, K: Kind> {
-    pub plan: &'a Plan,
-    pub kind: &'a K,
-    pub trellis: Trellis,
+pub(crate) struct Step<'p, 'a, K: Kind> {
+    pub pass: &'p Pass<'a, K>,
     pub values: StepValues,
     pub forced: Option<bool>,
 }

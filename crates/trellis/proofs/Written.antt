@@ -35,7 +35,8 @@ overwritten_back m marks t s bytes =
     ∙ ap (λ l. set l t (digit (marks t s))) (overwritten_same t _ u bytes (λ i l. sym (back_more m marks t s i l)))
     ∙ ap (λ b. set (overwritten t u bytes) t (digit b)) (sym (back_last m marks t s))
 
-overwritten_length : (n : ℕ) (u : ℕ → Bool) (bytes : List ℕ) → length (overwritten n u bytes) ≡ length bytes
+-- the memory keeps its length
+pub overwritten_length : (n : ℕ) (u : ℕ → Bool) (bytes : List ℕ) → length (overwritten n u bytes) ≡ length bytes
 unfolding overwritten
 overwritten_length zero u bytes = refl
 overwritten_length (suc n) u bytes = length-set (overwritten n u bytes) n (digit (u n)) ∙ overwritten_length n u bytes

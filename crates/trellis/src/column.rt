@@ -1,6 +1,8 @@
 // A column of the trellis: the score of each state at one time, in a lent memory.
 ghost use Rattle.std.specs.Prelude.{◌≡◌, length, replicate, slice_index_or, slice_set};
 
+use crate::place::put_at;
+
 #[derive(Drop)]
 pub struct Column<'a, S> {
     pub scores: &'a mut [S],
@@ -11,35 +13,22 @@ impl<'a, S: Copy> Column<'a, S> {
     pub fn at(&self, state: usize, past: S) -> S
         ensures { result ≡ slice_index_or self.now.scores.now state past }
     {
-        let scores: &[S] = self.scores;
-        if state < scores.len() {
-            scores[state]
-        } else {
-            past
-        }
+        self.scores.get(state).copied().unwrap_or(past)
     }
 
     // Sets the score of a state; past the last state nothing changes.
     pub fn put(&mut self, state: usize, score: S)
         ensures { self.new.scores.now ≡ slice_set self.old.scores.now state score }
     {
-        if state < self.scores.len() {
-            self.scores[state] = score;
-        }
+        put_at(self.scores, state, score);
     }
 
-    // Sets the score of every state.
+    // Sets the score of every state. The library's `fill` asks for a clone that cannot fail, which a `Copy` bound does not say.
     pub fn fill(&mut self, score: S)
         ensures { self.new.scores.now ≡ replicate (length self.old.scores.now) score }
     {
-        fill_with(self.scores, score);
-    }
-}
-
-fn fill_with<S: Copy>(scores: &mut [S], score: S)
-    ensures { scores.new ≡ replicate (length scores.old) score }
-{
-    for place in scores.iter_mut() {
-        *place = score;
+        for place in self.scores.iter_mut() {
+            *place = score;
+        }
     }
 }

@@ -2,6 +2,7 @@
 #![tactic(auto)]
 
 mod column;
+mod place;
 mod theorem;
 mod trellis;
 

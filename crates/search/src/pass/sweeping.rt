@@ -2,56 +2,37 @@
 ghost use Rattle.std.specs.Prelude.{◌≡◌, ℕ, ◌^◌, ◌<◌, ◌≤◌, slice_index_or};
 ghost use Rattle.trellis.specs.Marks.{marked};
 ghost use Rattle.trellis.specs.Survivors.{prefix, survivor, mark};
-ghost use Rattle.search.specs.Stepping.{steps_of, Fits, ColumnFits, MarksFit};
+ghost use Rattle.search.specs.Stepping.{steps_of};
 
-use crate::pass::Pass;
+use crate::pass::Workspace;
 use crate::step::Step;
 use score::{Kind, gather};
-use trellis::Column;
 
-impl<'a, K: Kind> Pass<'a, K> {
-    // The survivors of a pass that starts with the first `held` bits of a number, in the old column, and all marks.
-    pub(crate) fn sweep<'c>(
-        &self,
-        held: usize,
-        number: usize,
-        old: &mut Column<'c, K::Score>,
-        new: &mut Column<'c, K::Score>,
-        marks: &mut [u8],
-    )
-        requires fits { Fits self.now }
-        requires held { held ≤ self.now.trellis.memory }
-        requires old { ColumnFits self.now old.old.scores.now }
-        requires new { ColumnFits self.now new.old.scores.now }
-        requires marks { MarksFit self.now marks.old }
-        ensures scores { (s : ℕ) → s < 2 ^ self.now.trellis.memory → slice_index_or old.new.scores.now s (K.Kind.scale self.now.kind.now).start ≡ survivor (steps_of (K.Kind.scale self.now.kind.now) self.now) self.now.trellis.memory (prefix self.now.trellis.memory held number) self.now.trellis.size s }
-        ensures marks { (t s : ℕ) → t < self.now.trellis.size → s < 2 ^ self.now.trellis.memory → marked self.now.trellis.memory marks.new t s ≡ mark (steps_of (K.Kind.scale self.now.kind.now) self.now) self.now.trellis.memory (prefix self.now.trellis.memory held number) t s }
-        ensures old { ColumnFits self.now old.new.scores.now }
-        ensures new { ColumnFits self.now new.new.scores.now }
+impl<'p, 'a, 'm, 'c, K: Kind> Workspace<'p, 'a, 'm, 'c, K> {
+    // The survivors of the pass that starts with a number, in the column before a step, and all marks.
+    pub(crate) fn sweep(&mut self, number: usize)
+        ensures pass { self.new.pass ≡ self.old.pass }
+        ensures scores { let p = self.old.pass.now in let m = p.trellis.memory in let k = K.Kind.scale p.kind.now in (s : ℕ) → s < 2 ^ m → slice_index_or self.new.before.now.scores.now s k.start ≡ survivor (steps_of k p) m (prefix m m number) p.trellis.size s }
+        ensures marks { let p = self.old.pass.now in let m = p.trellis.memory in let k = K.Kind.scale p.kind.now in (t s : ℕ) → t < p.trellis.size → s < 2 ^ m → marked m self.new.marks.now t s ≡ mark (steps_of k p) m (prefix m m number) t s }
     {
-        old.fill(self.kind.start());
-        for t in 0..self.trellis.size() {
+        let pass = self.pass;
+        self.before.fill(pass.kind.start());
+        for t in 0..pass.trellis.size() {
             let step = Step {
-                plan: self.plan,
-                kind: self.kind,
-                trellis: self.trellis,
-                values: gather(self.plan, self.memory, t),
-                forced: forced_bit(self.trellis.memory(), held, number, t),
+                pass,
+                values: gather(pass.plan, pass.values, t),
+                forced: forced_bit(pass.trellis.memory(), number, t),
             };
-            step.run(old, new, marks, t);
-            std::mem::swap(old, new);
+            step.run(self.before, self.after, self.marks, t);
+            std::mem::swap(self.before, self.after);
         }
     }
 }
 
-// The bit that is forced at step t: one of the first `held` of a number of `bits` bits.
-fn forced_bit(bits: usize, held: usize, number: usize, t: usize) -> Option<bool>
-    requires { (held ≤ bits) × (bits ≤ 8) }
-    ensures { result ≡ prefix bits held number t }
+// The bit that is forced at step t: one of the bits of a number of so many bits.
+fn forced_bit(bits: usize, number: usize, t: usize) -> Option<bool>
+    requires { bits ≤ 8 }
+    ensures { result ≡ prefix bits bits number t }
 {
-    if t < held {
-        Some((number >> (bits - 1 - t)) % 2 == 1)
-    } else {
-        None
-    }
+    (t < bits).then(|| (number >> (bits - 1 - t)) % 2 == 1)
 }

@@ -7,18 +7,18 @@ use crate::step::Step;
 use score::Kind;
 use trellis::Column;
 
-impl<'a, K: Kind> Step<'a, K> {
+impl<'p, 'a, K: Kind> Step<'p, 'a, K> {
     // Eight states: their scores go into the new column, their marks into a byte, the first in the lowest bit.
     fn eight(&self, old: &Column<'_, K::Score>, new: &mut Column<'_, K::Score>, group: usize) -> u8
-        requires { (8 * group + 8 ≤ 2 ^ self.now.trellis.memory) × (2 ^ self.now.trellis.memory ≤ length new.old.scores.now) }
-        ensures marks { (i : ℕ) → i < 8 → lit result i ≡ mark_of (K.Kind.scale self.now.kind.now) self.now old.now.scores.now (8 * group + i) }
-        ensures scores { (i : ℕ) → i < 8 → slice_index_or new.new.scores.now (8 * group + i) (K.Kind.scale self.now.kind.now).start ≡ next_of (K.Kind.scale self.now.kind.now) self.now old.now.scores.now (8 * group + i) }
-        ensures before { (s : ℕ) → s < 8 * group → slice_index_or new.new.scores.now s (K.Kind.scale self.now.kind.now).start ≡ slice_index_or new.old.scores.now s (K.Kind.scale self.now.kind.now).start }
+        requires { (8 * group + 8 ≤ 2 ^ self.now.pass.now.trellis.memory) × (2 ^ self.now.pass.now.trellis.memory ≤ length new.old.scores.now) }
+        ensures marks { (i : ℕ) → i < 8 → lit result i ≡ mark_of (K.Kind.scale self.now.pass.now.kind.now) self.now old.now.scores.now (8 * group + i) }
+        ensures scores { (i : ℕ) → i < 8 → slice_index_or new.new.scores.now (8 * group + i) (K.Kind.scale self.now.pass.now.kind.now).start ≡ next_of (K.Kind.scale self.now.pass.now.kind.now) self.now old.now.scores.now (8 * group + i) }
+        ensures before { (s : ℕ) → s < 8 * group → slice_index_or new.new.scores.now s (K.Kind.scale self.now.pass.now.kind.now).start ≡ slice_index_or new.old.scores.now s (K.Kind.scale self.now.pass.now.kind.now).start }
         ensures len { length new.new.scores.now ≡ length new.old.scores.now }
     {
         let mut byte = 0;
-        for i in 0..8 {
-            let state = 8 * group + 7 - i;
+        for i in (0..8).rev() {
+            let state = 8 * group + i;
             let (mark, score) = self.survivor(old, state);
             new.put(state, score);
             byte = 2 * byte + u8::from(mark);
@@ -34,17 +34,17 @@ impl<'a, K: Kind> Step<'a, K> {
         marks: &mut [u8],
         t: usize,
     )
-        requires time { t < self.now.trellis.size }
-        requires states { 2 ^ self.now.trellis.memory ≤ length new.old.scores.now }
-        requires room { self.now.trellis.size * 2 ^ self.now.trellis.memory / 8 ≤ length marks.old }
-        ensures scores { (s : ℕ) → s < 2 ^ self.now.trellis.memory → slice_index_or new.new.scores.now s (K.Kind.scale self.now.kind.now).start ≡ next_of (K.Kind.scale self.now.kind.now) self.now old.now.scores.now s }
-        ensures marks { (s : ℕ) → s < 2 ^ self.now.trellis.memory → marked self.now.trellis.memory marks.new t s ≡ mark_of (K.Kind.scale self.now.kind.now) self.now old.now.scores.now s }
-        ensures others { (i s : ℕ) → (i ≢ t) → s < 2 ^ self.now.trellis.memory → marked self.now.trellis.memory marks.new i s ≡ marked self.now.trellis.memory marks.old i s }
+        requires time { t < self.now.pass.now.trellis.size }
+        requires states { 2 ^ self.now.pass.now.trellis.memory ≤ length new.old.scores.now }
+        requires room { self.now.pass.now.trellis.size * 2 ^ self.now.pass.now.trellis.memory / 8 ≤ length marks.old }
+        ensures scores { (s : ℕ) → s < 2 ^ self.now.pass.now.trellis.memory → slice_index_or new.new.scores.now s (K.Kind.scale self.now.pass.now.kind.now).start ≡ next_of (K.Kind.scale self.now.pass.now.kind.now) self.now old.now.scores.now s }
+        ensures marks { (s : ℕ) → s < 2 ^ self.now.pass.now.trellis.memory → marked self.now.pass.now.trellis.memory marks.new t s ≡ mark_of (K.Kind.scale self.now.pass.now.kind.now) self.now old.now.scores.now s }
+        ensures others { (i s : ℕ) → (i ≢ t) → s < 2 ^ self.now.pass.now.trellis.memory → marked self.now.pass.now.trellis.memory marks.new i s ≡ marked self.now.pass.now.trellis.memory marks.old i s }
         ensures len { length new.new.scores.now ≡ length new.old.scores.now }
     {
-        for group in 0..self.trellis.states() / 8 {
+        for group in 0..self.pass.trellis.states() / 8 {
             let byte = self.eight(old, new, group);
-            self.trellis.put_eight(marks, t, group, byte);
+            self.pass.trellis.put_eight(marks, t, group, byte);
         }
     }
 }

@@ -8,12 +8,12 @@ use code::parity;
 use score::Kind;
 use trellis::{Column, Trellis};
 
-impl<'a, K: Kind> Step<'a, K> {
+impl<'p, 'a, K: Kind> Step<'p, 'a, K> {
     // The bit that the surviving way into a state shifts out, and its score: the forced way, else the better one, of equals that of 0.
     pub(crate) fn survivor(&self, old: &Column<'_, K::Score>, state: usize) -> (bool, K::Score)
-        requires { state < 2 ^ self.now.trellis.memory }
-        ensures mark { result.0 ≡ mark_of (K.Kind.scale self.now.kind.now) self.now old.now.scores.now state }
-        ensures score { result.1 ≡ next_of (K.Kind.scale self.now.kind.now) self.now old.now.scores.now state }
+        requires { state < 2 ^ self.now.pass.now.trellis.memory }
+        ensures mark { result.0 ≡ mark_of (K.Kind.scale self.now.pass.now.kind.now) self.now old.now.scores.now state }
+        ensures score { result.1 ≡ next_of (K.Kind.scale self.now.pass.now.kind.now) self.now old.now.scores.now state }
     {
         match self.forced {
             Some(bit) => (bit, self.way(old, state, bit)),
@@ -23,10 +23,10 @@ impl<'a, K: Kind> Step<'a, K> {
 
     // Of the ways that shift 0 and 1 out the better one; of equals the first.
     fn better(&self, zero: K::Score, one: K::Score) -> (bool, K::Score)
-        ensures mark { result.0 ≡ not ((K.Kind.scale self.now.kind.now).no_worse zero one) }
-        ensures score { result.1 ≡ (if (K.Kind.scale self.now.kind.now).no_worse zero one then zero else one) }
+        ensures mark { result.0 ≡ not ((K.Kind.scale self.now.pass.now.kind.now).no_worse zero one) }
+        ensures score { result.1 ≡ (if (K.Kind.scale self.now.pass.now.kind.now).no_worse zero one then zero else one) }
     {
-        if self.kind.no_worse(zero, one) {
+        if self.pass.kind.no_worse(zero, one) {
             (false, zero)
         } else {
             (true, one)
@@ -35,12 +35,12 @@ impl<'a, K: Kind> Step<'a, K> {
 
     // The score at a state by the way that shifts this bit out.
     fn way(&self, old: &Column<'_, K::Score>, state: usize, bit: bool) -> K::Score
-        requires { state < 2 ^ self.now.trellis.memory }
-        ensures { result ≡ way_of (K.Kind.scale self.now.kind.now) self.now old.now.scores.now state bit }
+        requires { state < 2 ^ self.now.pass.now.trellis.memory }
+        ensures { result ≡ way_of (K.Kind.scale self.now.pass.now.kind.now) self.now old.now.scores.now state bit }
     {
-        let score = old.at(self.trellis.before(bit, state), self.kind.start());
-        let bits = parity(self.plan, window_of(self.trellis, bit, state));
-        self.values.absorb(self.kind, bits, score)
+        let score = old.at(self.pass.trellis.before(bit, state), self.pass.kind.start());
+        let bits = parity(self.pass.plan, window_of(self.pass.trellis, bit, state));
+        self.values.absorb(self.pass.kind, bits, score)
     }
 }
 
@@ -49,6 +49,5 @@ fn window_of(trellis: Trellis, bit: bool, state: usize) -> u16
     requires { state < 2 ^ trellis.memory }
     ensures { result ≡ window trellis.memory bit state }
 {
-    let high = if bit { trellis.states() } else { 0 };
-    (high + state) as u16
+    (usize::from(bit) * trellis.states() + state) as u16
 }

@@ -2,6 +2,7 @@
 ghost use Rattle.std.specs.Prelude.{◌≡◌, ℕ, ◌/◌, ◌^◌, ◌<◌, ◌&&◌, length, set, if◌then◌else◌, nat_lt, slice_index, slice_set};
 ghost use Rattle.trellis.specs.Marks.{lit, mark_place, marked, with_eight};
 
+use crate::place::put_at;
 use crate::trellis::Trellis;
 
 impl Trellis {
@@ -12,7 +13,7 @@ impl Trellis {
         ensures marks { t < self.size → group < 2 ^ self.memory / 8 → mark_place self.memory t group < length marks.old → (i s : ℕ) → s < 2 ^ self.memory → marked self.memory marks.new i s ≡ with_eight t group eight (marked self.memory marks.old) i s }
     {
         if t < self.size && group < self.row {
-            put_byte(marks, t * self.row + group, eight);
+            put_at(marks, t * self.row + group, eight);
         }
     }
 
@@ -21,7 +22,8 @@ impl Trellis {
         requires { t < self.size }
         ensures { result ≡ marked self.memory marks.now t state }
     {
-        is_lit(byte_at(marks, t * self.row + state / 8), state % 8)
+        let byte = marks.get(t * self.row + state / 8).copied().unwrap_or(0);
+        is_lit(byte, state % 8)
     }
 }
 
@@ -30,20 +32,4 @@ fn is_lit(byte: u8, i: usize) -> bool
     ensures { result ≡ lit byte i }
 {
     (byte >> i) % 2 == 1
-}
-
-// The byte at a place, 0 past the end.
-fn byte_at(bytes: &[u8], place: usize) -> u8
-    ensures { result ≡ slice_index bytes.now place }
-{
-    if place < bytes.len() { bytes[place] } else { 0 }
-}
-
-// Writes a byte; past the end nothing changes.
-pub(crate) fn put_byte(bytes: &mut [u8], place: usize, byte: u8)
-    ensures { bytes.new ≡ slice_set bytes.old place byte }
-{
-    if place < bytes.len() {
-        bytes[place] = byte;
-    }
 }

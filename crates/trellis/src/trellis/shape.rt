@@ -12,11 +12,10 @@ impl Trellis {
         ensures size { result.size ≡ (plan_scheme plan.now).block }
     {
         let parts = plan.parts();
-        let row = if parts.constraint == 7 { 8 } else { 32 };
         Trellis {
             memory: parts.constraint - 1,
             size: parts.block_length,
-            row,
+            row: 1 << (parts.constraint - 4),
         }
     }
 

@@ -5,8 +5,8 @@ ghost use Rattle.trellis.specs.Choice.{back};
 ghost use Rattle.trellis.specs.Marks.{marked, overwritten};
 ghost use Rattle.trellis.specs.Survivors.{before};
 
+use crate::place::put_at;
 use crate::trellis::Trellis;
-use crate::trellis::marks::put_byte;
 
 impl Trellis {
     // Writes the bits that the marks give, from the last step into the state `end` back to the first.
@@ -17,9 +17,10 @@ impl Trellis {
         ensures rest { (i : ℕ) → self.size ≤ i → slice_index block.new i ≡ slice_index block.old i }
     {
         let mut state = end;
+        // by step, not over the rows or the block: a step that either lacks leads back all the same
         for t in (0..self.size).rev() {
             let bit = self.is_marked(marks, t, state);
-            put_byte(block, t, u8::from(bit));
+            put_at(block, t, u8::from(bit));
             state = self.before(bit, state);
         }
     }

@@ -10,11 +10,11 @@ use Rattle.search.proofs.Finding.{found, shown_bits}
 use Rattle.search.proofs.Rooms.{room}
 use Rattle.search.proofs.looking.search.Goals as goal
 
-pub pick-requires : goal.pick-requires
-pick-requires g c =
+pub invariant_of-workspace : goal.invariant_of-workspace
+invariant_of-workspace g c =
     let o = c.of.ensures in
     let r = room (plan_scheme c.args.plan.now) c.of.result.memory c.of.result.size _ o.memory o.size (sym c.if-not-has_room.ensures) in
-    record { fits = (o.memory, o.size); old = r.old; new = r.new; marks = r.marks }
+    record { before_fits = r.old; after_fits = r.new; marks_fit = r.marks }
 
 pub returns : goal.returns
 returns g c =

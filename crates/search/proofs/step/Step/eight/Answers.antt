@@ -1,4 +1,4 @@
-use Rattle.std.proofs.Common.{◌≡◌, ◌+◌, ◌*◌, ap, ◌∙◌, arith}
+use Rattle.std.proofs.Common.{◌≡◌, ◌+◌, ◌-◌, ◌*◌, ap, ◌∙◌, arith}
 use Rattle.trellis.proofs.Bits.{byte_digit, digit_below}
 use Rattle.search.proofs.Eights.{done_none, done_more, done_marks, done_scores, done_fits}
 use Rattle.search.proofs.step.Step.eight.Goals as goal
@@ -18,11 +18,11 @@ overflow_add-byte g c =
 pub loop-i-preserved : goal.loop-i-preserved
 loop-i-preserved g c =
     done_more _ _ _ _ _ c.loop-i.i c.loop-i.byte c.loop-i.new.scores.now c.survivor-mark.result.0 c.survivor-mark.result.1 _ _
-    c.loop-i-test.true (omega arith) c.survivor-mark.ensures.mark c.survivor-mark.ensures.score
+    c.loop-i-test.true c.loop-i.auto.i (omega arith) c.survivor-mark.ensures.mark c.survivor-mark.ensures.score
     (ap (λ n. 2 * c.loop-i.byte + n) c.from.ensures) c.put.ensures c.loop-i.invariant
 
 pub returns : goal.returns
 returns g c =
-    let e : c.loop-i.i ≡ 8 = omega arith in
+    let e : c.loop-i.i ≡ 0 = omega arith in
     let d = c.loop-i.invariant in
     record { marks = done_marks _ _ _ _ _ _ _ _ e d; scores = done_scores _ _ _ _ _ _ _ _ e d; before = d.below; len = d.len }

@@ -4,7 +4,7 @@ use Rattle.search.proofs.step.Step.eight.Given as goal
 
 abbrev pub invariant-loop-i : goal.invariant-loop-i
 invariant-loop-i g l =
-    let k = g.K.Kind.scale l.self.kind.now in
+    let k = g.K.Kind.scale l.self.pass.now.kind.now in
     Done
     (mark_of k l.self l.old.scores.now)
     (next_of k l.self l.old.scores.now)

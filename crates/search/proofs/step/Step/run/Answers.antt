@@ -8,12 +8,12 @@ loop-group-init g c = filled_none _ _ _ _ _ _ _
 pub eight-byte-requires : goal.eight-byte-requires
 eight-byte-requires g c =
     let len = c.loop-group.invariant.len in
-    let rows = c.args.self.now.trellis.rows in
+    let rows = c.args.self.now.pass.now.trellis.rows in
     (omega arith, omega (arith, c.requires.states))
 
 pub loop-group-preserved : goal.loop-group-preserved
 loop-group-preserved g c =
-    let s = c.args.self.now.trellis in
+    let s = c.args.self.now.pass.now.trellis in
     let group = c.loop-group.group in
     let rows = s.rows in
     let below : group < s.row = omega arith in
@@ -26,7 +26,7 @@ loop-group-preserved g c =
 pub returns : goal.returns
 returns g c =
     let f = c.loop-group.invariant in
-    let rows = c.args.self.now.trellis.rows in
+    let rows = c.args.self.now.pass.now.trellis.rows in
     record {
       scores = λ s l. f.scored s (omega arith);
       marks = λ s l. f.here s (omega arith) l;

@@ -1,4 +1,4 @@
-use Rattle.std.proofs.Common.{◌*◌, ◌/◌, ◌%◌, ◌≤◌, get_or, ap, ◌∙◌, arith}
+use Rattle.std.proofs.Common.{◌*◌, ◌/◌, ◌%◌, ◌≤◌, get_or, ap, ◌∙◌, arith, rules}
 use Rattle.std.proofs.lemmas.Nat.{mul-le}
 use Rattle.trellis.specs.Marks.{lit, marked}
 use Rattle.trellis.proofs.Places.{row_high, place_is}
@@ -16,5 +16,5 @@ unfolding marked
 returns c =
     let s = c.args.self in
     let i = c.args.state in
-    c.is_lit.ensures ∙ ap (λ b. lit b (i % 8)) c.byte_at.ensures
+    c.is_lit.ensures ∙ ap (λ b. lit b (i % 8)) (search rules)
     ∙ ap (λ p. lit (get_or c.args.marks.now p 0) (i % 8)) (place_is s.memory s.row c.args.t (i / 8) s.rows)

@@ -16,7 +16,7 @@ loop-t-preserved c =
     let e : suc t ≡ c.loop-t.t = omega arith in
     let bit : c.is_marked-bit.result ≡ marks t s = c.is_marked-bit.ensures in
     let from : c.from.result ≡ digit (marks t s) = c.from.ensures ∙ byte_digit c.is_marked-bit.result ∙ ap digit bit in
-    let byte : c.put_byte.new.bytes ≡ set c.loop-t.block t (digit (marks t s)) = c.put_byte.ensures ∙ ap (set c.loop-t.block t) from in
+    let byte : c.put_at.new.items ≡ set c.loop-t.block t (digit (marks t s)) = c.put_at.ensures ∙ ap (set c.loop-t.block t) from in
     let state : c.before-state.result ≡ before m (marks t s) s = c.before-state.ensures ∙ ap (λ b. before m b s) bit in
     ap (overwritten t (back m marks t c.before-state.result)) byte
     ∙ ap (λ x. overwritten t (back m marks t x) (set c.loop-t.block t (digit (marks t s)))) state
