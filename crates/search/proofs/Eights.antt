@@ -1,6 +1,6 @@
 -- Eight states of a step, the last first: their marks in a byte, their scores in the new column.
 -- Assumes nothing.
-use Rattle.std.proofs.Common.{◌≡◌, ℕ, suc, ◌+◌, ◌-◌, ◌*◌, ◌/◌, ◌%◌, ◌^◌, ◌<◌, ◌≤◌, Bool, eqb, List, length, get_or, set as put, sym, refl, ap, ◌∙◌, subst, ⊎_elim, arith, get_or-set_other, get_or-set_same}
+use Rattle.std.proofs.Common.{◌≡◌, ℕ, suc, ◌+◌, ◌-◌, ◌*◌, ◌/◌, ◌%◌, ◌^◌, ◌<◌, ◌≤◌, Bool, eqb, List, length, get_or, set as put, sym, ap, ◌∙◌, subst, ⊎_elim, arith, get_or-set_other, get_or-set_same}
 use native.Mathlib.Nat.{pow-le-pow_right}
 use mir.Val.{bool_byte}
 use Rattle.std.proofs.lemmas.List.{length-set}
@@ -21,9 +21,6 @@ module _ {S : Type 0} (mark : ℕ → Bool) (score : ℕ → S) (start : S) (bef
     pub set : (j : ℕ) → left ≤ j → j < 8 → get_or scores (8 * group + j) start ≡ score (8 * group + j)
     pub below : (s : ℕ) → s < 8 * group → get_or scores s start ≡ get_or before s start
     pub len : length scores ≡ length before
-
-  pub done_none : Done 8 0 before
-  done_none = record { marks = refl; set = λ j l k. absurd (omega arith); below = λ s l. refl; len = refl }
 
   pub done_fits : (left byte : ℕ) (scores : List S) → 0 < left → Done left byte scores → byte < 128
   done_fits left byte scores l d =

@@ -21,9 +21,6 @@ module _ {S : Type 0} (mark : ℕ → Bool) (score : ℕ → S) (start : S) (m t
     pub others : (i s : ℕ) → (i ≡ t → ⊥) → s < 2 ^ m → marked m marks i s ≡ marked m bytes i s
     pub len : length scores ≡ length before
 
-  pub filled_none : Filled 0 before bytes
-  filled_none = record { scored = λ s l. absurd (omega arith); here = λ s l. absurd (omega arith); others = λ i s ne l. refl; len = refl }
-
   pub filled_more : (group byte : ℕ) (scores : List S) (marks : List ℕ) (scores' : List S) (marks' : List ℕ) →
       ((i : ℕ) → i < 8 → lit byte i ≡ mark (8 * group + i)) →
       ((i : ℕ) → i < 8 → get_or scores' (8 * group + i) start ≡ score (8 * group + i)) →

@@ -1,7 +1,6 @@
 -- What a byte of eight marks changes.
 -- Assumes nothing.
-use Rattle.std.proofs.Common.{◌≡◌, ℕ, ◌+◌, ◌*◌, ◌/◌, ◌%◌, ◌^◌, ◌<◌, ◌≤◌, false, ◌&&◌, eqb, ◌⊎◌, List, length, get_or, set, sym, ap, ◌∙◌, inl, inr, ⊎_elim, arith, get_or-set_other, get_or-set_same}
-use native.Mathlib.Nat.{pow-le-pow_right}
+use Rattle.std.proofs.Common.{◌≡◌, ℕ, ◌+◌, ◌*◌, ◌/◌, ◌%◌, ◌^◌, ◌<◌, false, ◌&&◌, eqb, ◌⊎◌, List, length, get_or, set, sym, ap, ◌∙◌, inl, inr, ⊎_elim, arith, get_or-set_other, get_or-set_same}
 use Rattle.std.proofs.lemmas.Bool.{cases_eq, cond-true, cond-false, eq-eqb, ne_eqb, and_from, and_left, and_right}
 use Rattle.std.proofs.lemmas.Nat.{div-mul-add, mod-mul-add}
 use Rattle.trellis.specs.Marks.{lit, mark_place, marked, with_eight}
@@ -45,10 +44,6 @@ row_is m row e = omega arith
 -- a state has its mark in the row
 pub group_below : (m row s : ℕ) → 8 * row ≡ 2 ^ m → s < 2 ^ m → s / 8 < 2 ^ m / 8
 group_below m row s e l = omega arith
-
--- a row is at most 32 bytes long
-pub row_high : (m row : ℕ) → m ≤ 8 → 8 * row ≡ 2 ^ m → row ≤ 32
-row_high m row h e = let p : 2 ^ m ≤ 2 ^ 8 = pow-le-pow_right (omega arith) h in omega arith
 
 -- a mark's byte, where the row is known by its length
 pub place_is : (m row t g : ℕ) → 8 * row ≡ 2 ^ m → t * row + g ≡ mark_place m t g

@@ -10,9 +10,9 @@ impl<'p, 'a, 'm, 'c, K: Kind> Workspace<'p, 'a, 'm, 'c, K> {
     // The start number that wins, with its score: a pass for every number.
     pub(crate) fn winner(&mut self) -> (usize, K::Score)
         ensures pass { self.new.pass ≡ self.old.pass }
-        ensures number { let p = self.old.pass.now in let m = p.trellis.memory in result.0 ≡ winner (steps_of (K.Kind.scale p.kind.now) p) m p.trellis.size (2 ^ m) }
+        ensures number { let p = self.old.pass.now in let m = p.trellis.memory in result.0 ≡ winner (steps_of p) m p.trellis.size (2 ^ m) }
         ensures below { result.0 < 2 ^ self.old.pass.now.trellis.memory }
-        ensures score { let p = self.old.pass.now in result.1 ≡ final (steps_of (K.Kind.scale p.kind.now) p) p.trellis.memory p.trellis.size result.0 }
+        ensures score { let p = self.old.pass.now in result.1 ≡ final (steps_of p) p.trellis.memory p.trellis.size result.0 }
     {
         let pass = self.pass;
         let mut lead = 0;
@@ -31,7 +31,7 @@ impl<'p, 'a, 'm, 'c, K: Kind> Workspace<'p, 'a, 'm, 'c, K> {
     fn final_score(&mut self, number: usize) -> K::Score
         requires { number < 2 ^ self.old.pass.now.trellis.memory }
         ensures pass { self.new.pass ≡ self.old.pass }
-        ensures value { let p = self.old.pass.now in result ≡ final (steps_of (K.Kind.scale p.kind.now) p) p.trellis.memory p.trellis.size number }
+        ensures value { let p = self.old.pass.now in result ≡ final (steps_of p) p.trellis.memory p.trellis.size number }
     {
         self.sweep(number);
         self.before.at(number, self.pass.kind.start())

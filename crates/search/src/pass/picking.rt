@@ -4,7 +4,7 @@ ghost use Rattle.plan.specs.Plans.{plan_scheme};
 ghost use Rattle.score.specs.Blocks.{value_at};
 ghost use Rattle.trellis.specs.Choice.{final, winner};
 ghost use Rattle.search.specs.Looking.{shown};
-ghost use Rattle.search.specs.Stepping.{steps_of};
+ghost use Rattle.search.specs.Stepping.{scale_of, steps_of};
 
 use crate::pass::Workspace;
 use score::Kind;
@@ -12,8 +12,8 @@ use score::Kind;
 impl<'p, 'a, 'm, 'c, K: Kind> Workspace<'p, 'a, 'm, 'c, K> {
     // Writes the block that survives from the winning start number, and answers its score.
     pub(crate) fn pick(&mut self, block: &mut [u8]) -> K::Score
-        ensures block { let p = self.old.pass.now in block.new ≡ shown (K.Kind.scale p.kind.now) (plan_scheme p.plan.now) (value_at p.values.now) block.old }
-        ensures score { let p = self.old.pass.now in let st = steps_of (K.Kind.scale p.kind.now) p in let m = p.trellis.memory in result ≡ final st m p.trellis.size (winner st m p.trellis.size (2 ^ m)) }
+        ensures block { let p = self.old.pass.now in block.new ≡ shown (scale_of p) (plan_scheme p.plan.now) (value_at p.values.now) block.old }
+        ensures score { let p = self.old.pass.now in let st = steps_of p in let m = p.trellis.memory in result ≡ final st m p.trellis.size (winner st m p.trellis.size (2 ^ m)) }
     {
         let pass = self.pass;
         let (start, score) = self.winner();

@@ -2,7 +2,7 @@
 ghost use Rattle.std.specs.Prelude.{◌≡◌, ℕ, ◌^◌, ◌<◌, ◌≤◌, slice_index_or};
 ghost use Rattle.trellis.specs.Marks.{marked};
 ghost use Rattle.trellis.specs.Survivors.{prefix, survivor, mark};
-ghost use Rattle.search.specs.Stepping.{steps_of};
+ghost use Rattle.search.specs.Stepping.{scale_of, steps_of};
 
 use crate::pass::Workspace;
 use crate::step::Step;
@@ -12,8 +12,8 @@ impl<'p, 'a, 'm, 'c, K: Kind> Workspace<'p, 'a, 'm, 'c, K> {
     // The survivors of the pass that starts with a number, in the column before a step, and all marks.
     pub(crate) fn sweep(&mut self, number: usize)
         ensures pass { self.new.pass ≡ self.old.pass }
-        ensures scores { let p = self.old.pass.now in let m = p.trellis.memory in let k = K.Kind.scale p.kind.now in (s : ℕ) → s < 2 ^ m → slice_index_or self.new.before.now.scores.now s k.start ≡ survivor (steps_of k p) m (prefix m m number) p.trellis.size s }
-        ensures marks { let p = self.old.pass.now in let m = p.trellis.memory in let k = K.Kind.scale p.kind.now in (t s : ℕ) → t < p.trellis.size → s < 2 ^ m → marked m self.new.marks.now t s ≡ mark (steps_of k p) m (prefix m m number) t s }
+        ensures scores { let p = self.old.pass.now in let m = p.trellis.memory in (s : ℕ) → s < 2 ^ m → slice_index_or self.new.before.now.scores.now s (scale_of p).start ≡ survivor (steps_of p) m (prefix m m number) p.trellis.size s }
+        ensures marks { let p = self.old.pass.now in let m = p.trellis.memory in (t s : ℕ) → t < p.trellis.size → s < 2 ^ m → marked m self.new.marks.now t s ≡ mark (steps_of p) m (prefix m m number) t s }
     {
         let pass = self.pass;
         self.before.fill(pass.kind.start());

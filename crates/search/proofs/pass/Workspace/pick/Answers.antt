@@ -15,8 +15,8 @@ returns g c =
     let lead = c.winner-start.result.0 in
     let marks = subst (λ q. (t i : ℕ) → t < q.now.trellis.size → i < 2 ^ q.now.trellis.memory →
     marked q.now.trellis.memory c.sweep.new.self.marks.now t i
-    ≡ mark (steps_of (g.K.Kind.scale q.now.kind.now) q.now) q.now.trellis.memory (prefix q.now.trellis.memory q.now.trellis.memory lead) t i) w.pass c.sweep.ensures.marks in
+    ≡ mark (steps_of q.now) q.now.trellis.memory (prefix q.now.trellis.memory q.now.trellis.memory lead) t i) w.pass c.sweep.ensures.marks in
     record {
       block = shown_is k _ _ _ s.memory s.size lead _ _ p.memory_fits p.size_fits w.below w.number marks c.trace_back.ensures.after;
-      score = w.score ∙ ap (final (steps_of k p) s.memory s.size) w.number;
+      score = w.score ∙ ap (final (steps_of p) s.memory s.size) w.number;
     }

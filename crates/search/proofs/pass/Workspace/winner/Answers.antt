@@ -12,10 +12,10 @@ loop-number-init g c = (refl, tried_first _ _ _ _ c.final_score-best.ensures.val
 pub loop-number-preserved : goal.loop-number-preserved
 loop-number-preserved g c =
     let p = c.args.self.now.pass.now in
-    let st = steps_of (g.K.Kind.scale p.kind.now) p in
+    let st = steps_of p in
     let n = c.loop-number.number in
     let f = c.final_score-score.ensures in
-    let score = subst (λ q. c.final_score-score.result ≡ final (steps_of (g.K.Kind.scale q.now.kind.now) q.now) q.now.trellis.memory q.now.trellis.size n)
+    let score = subst (λ q. c.final_score-score.result ≡ final (steps_of q.now) q.now.trellis.memory q.now.trellis.size n)
     (c.loop-number.invariant.0 ∙ c.final_score-best.ensures.pass) f.value in
     let tried : Tried st p.trellis.memory p.trellis.size _ c.if-not-no_worse.lead c.if-not-no_worse.best =
     elim c.if-not-no_worse.branch [
@@ -32,7 +32,7 @@ returns g c =
     let e : c.loop-number.number ≡ 2 ^ m = omega (arith, c.states-number-end.ensures, pow_pos m) in
     record {
       pass = c.loop-number.invariant.0 ∙ c.final_score-best.ensures.pass;
-      number = t.number ∙ ap (winner (steps_of (g.K.Kind.scale p.kind.now) p) m p.trellis.size) e;
+      number = t.number ∙ ap (winner (steps_of p) m p.trellis.size) e;
       below = omega (arith, t.low);
       score = t.score;
     }

@@ -7,4 +7,4 @@ abbrev pub invariant-loop-number : goal.invariant-loop-number
 invariant-loop-number g l =
     let p = l.pass in
     (l.self.pass ≡ l.initial.self.pass)
-    × Tried (steps_of (g.K.Kind.scale p.kind.now) p) p.trellis.memory p.trellis.size l.number l.lead l.best
+    × Tried (steps_of p) p.trellis.memory p.trellis.size l.number l.lead l.best

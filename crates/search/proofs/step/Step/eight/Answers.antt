@@ -1,10 +1,7 @@
-use Rattle.std.proofs.Common.{◌≡◌, ◌+◌, ◌-◌, ◌*◌, ap, ◌∙◌, arith}
+use Rattle.std.proofs.Common.{◌≡◌, ◌+◌, ◌*◌, ap, ◌∙◌, arith}
 use Rattle.trellis.proofs.Bits.{byte_digit, digit_below}
-use Rattle.search.proofs.Eights.{done_none, done_more, done_marks, done_scores, done_fits}
+use Rattle.search.proofs.Eights.{done_more, done_marks, done_scores, done_fits}
 use Rattle.search.proofs.step.Step.eight.Goals as goal
-
-pub loop-i-init : goal.loop-i-init
-loop-i-init g c = done_none _ _ _ _ _
 
 pub overflow_mul-byte : goal.overflow_mul-byte
 overflow_mul-byte g c = let h = done_fits _ _ _ _ _ c.loop-i.i c.loop-i.byte _ c.loop-i-test.true c.loop-i.invariant in omega arith

@@ -1,15 +1,6 @@
 use Rattle.std.proofs.Common.{◌/◌, ◌^◌, ◌<◌, arith}
-use Rattle.search.proofs.Rows.{filled_none, filled_more, place_below}
+use Rattle.search.proofs.Rows.{filled_more, place_below}
 use Rattle.search.proofs.step.Step.run.Goals as goal
-
-pub loop-group-init : goal.loop-group-init
-loop-group-init g c = filled_none _ _ _ _ _ _ _
-
-pub eight-byte-requires : goal.eight-byte-requires
-eight-byte-requires g c =
-    let len = c.loop-group.invariant.len in
-    let rows = c.args.self.now.pass.now.trellis.rows in
-    (omega arith, omega (arith, c.requires.states))
 
 pub loop-group-preserved : goal.loop-group-preserved
 loop-group-preserved g c =

@@ -1,12 +1,6 @@
 use Rattle.std.proofs.Common.{◌<◌, length, replicate, sym, ◌∙◌, arith}
-use Rattle.std.proofs.lemmas.List.Edits.{fill_by_more}
 use Rattle.std.proofs.lemmas.List.{ext_get_or, length-replicate, get_or-replicate}
 use Rattle.trellis.proofs.column.Column.fill.Goals as goal
-
-pub loop-place-preserved : goal.loop-place-preserved
-loop-place-preserved g c =
-    let l : c.loop-place.place-index < length c.loop-place.place-items = omega arith in
-    fill_by_more (λ _. c.args.score) c.loop-place.place-items c.loop-place.place-index c.args.score l c.loop-place.invariant
 
 pub returns : goal.returns
 returns g c =

@@ -1,15 +1,7 @@
-use Rattle.std.proofs.Common.{◌*◌, ◌/◌, ◌%◌, ◌≤◌, get_or, ap, ◌∙◌, arith, rules}
-use Rattle.std.proofs.lemmas.Nat.{mul-le}
+use Rattle.std.proofs.Common.{◌/◌, ◌%◌, get_or, ap, ◌∙◌, rules}
 use Rattle.trellis.specs.Marks.{lit, marked}
-use Rattle.trellis.proofs.Places.{row_high, place_is}
+use Rattle.trellis.proofs.Places.{place_is}
 use Rattle.trellis.proofs.trellis.Trellis.is_marked.Goals as goal
-
-pub overflow_add-t : goal.overflow_add-t
-overflow_add-t c =
-    let s = c.args.self in
-    let high = row_high s.memory s.row s.small s.rows in
-    let p : c.args.t * s.row ≤ 1843200 * 32 = mul-le c.args.t s.row 1843200 32 (omega arith) high in
-    omega arith
 
 pub returns : goal.returns
 unfolding marked

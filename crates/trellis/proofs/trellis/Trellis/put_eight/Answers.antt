@@ -1,5 +1,5 @@
-use Rattle.std.proofs.Common.{◌≡◌, ◌/◌, ◌^◌, false, ◌&&◌, ltb, set, sym, ap, ◌∙◌, ⊎_elim, arith}
-use Rattle.std.proofs.lemmas.Bool.{cond-true, cond-false, and_from, and_left, and_right, lt-ltb, le-ltb}
+use Rattle.std.proofs.Common.{◌≡◌, ◌/◌, ◌^◌, ltb, set, sym, ap, ◌∙◌, arith}
+use Rattle.std.proofs.lemmas.Bool.{cond-true, and_from, lt-ltb}
 use Rattle.trellis.specs.Marks.{mark_place, marked}
 use Rattle.trellis.proofs.Places.{marked_with, place_is, row_is, group_below}
 use Rattle.trellis.proofs.trellis.Trellis.put_eight.Goals as goal
@@ -16,16 +16,4 @@ returns-then-group-self c =
       after = put ∙ sym (cond-true _ _ _ inside);
       marks = λ _ a l i j b. ap (λ bytes. marked m bytes i j) put
           ∙ marked_with m c.args.marks.now c.args.t c.args.group c.args.eight i j a l (group_below m s.row j s.rows b);
-    }
-
-pub returns-else-t-self : goal.returns-else-t-self
-returns-else-t-self c =
-    let s = c.args.self in
-    let m = s.memory in
-    let row = row_is m s.row s.rows in
-    let outside : (ltb c.args.t s.size && ltb c.args.group (2 ^ m / 8)) ≡ false =
-    ⊎_elim (λ h. and_right _ _ (le-ltb c.args.group (2 ^ m / 8) (omega arith))) (λ h. and_left _ _ (le-ltb c.args.t s.size h)) c.else-t-self.either in
-    record {
-      after = sym (cond-false _ _ _ outside);
-      marks = λ a b l i j k. absurd (⊎_elim (λ h. omega arith) (λ h. omega arith) c.else-t-self.either);
     }
