@@ -6,18 +6,19 @@ use mir.Val.{bool_byte}
 use Rattle.std.proofs.lemmas.List.{length-set}
 use Rattle.std.proofs.lemmas.Bool.{cases_eq}
 use Rattle.code.specs.Numbers.{digit, num}
+use Rattle.code.proofs.Blocks.{num_below}
 use Rattle.code.proofs.Windows.{bit_num}
 use Rattle.trellis.specs.Marks.{lit}
-use Rattle.trellis.proofs.Bits.{byte_digit, num_below}
+use Rattle.trellis.proofs.Bits.{byte_digit}
 
 module _ {S : Type 0} (mark : ℕ → Bool) (score : ℕ → S) (start : S) (before : List S) (group : ℕ) where
   -- the marks from the last state down
-  abbrev down : ℕ → Bool
+  abbrev pub down : ℕ → Bool
   down j = mark (8 * group + 7 - j)
 
   -- once the states from `left` on are done
   pub record Done (left byte : ℕ) (scores : List S) : Type 0 where
-    pub marks : byte ≡ num (λ j. mark (8 * group + 7 - j)) (8 - left) 0
+    pub marks : byte ≡ num down (8 - left) 0
     pub set : (j : ℕ) → left ≤ j → j < 8 → get_or scores (8 * group + j) start ≡ score (8 * group + j)
     pub below : (s : ℕ) → s < 8 * group → get_or scores s start ≡ get_or before s start
     pub len : length scores ≡ length before

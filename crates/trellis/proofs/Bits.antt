@@ -1,16 +1,13 @@
 -- The numbers that bits write: windows, states and the state before.
 -- Assumes nothing.
 use Rattle.std.proofs.Common.{◌≡◌, ℕ, zero, suc, ◌+◌, ◌-◌, ◌*◌, ◌/◌, ◌%◌, ◌^◌, ◌<◌, ◌≤◌, Bool, true, false, eqb, sym, refl, ap, ◌∙◌, div-one, arith}
-use native.Mathlib.Nat.{pow-succ', add-mod_left, div-eq_of_lt}
+use native.Mathlib.Nat.{add-mod_left, div-eq_of_lt}
 use mir.Val.{bool_byte}
 use Rattle.std.proofs.lemmas.Nat.{shr-shr}
 use Rattle.code.specs.Numbers.{digit, num, bit_of}
+use Rattle.code.proofs.Blocks.{digit_le, num_high}
 use Rattle.trellis.specs.Steps.{around}
-use Rattle.trellis.specs.Survivors.{window, before}
-
-pub digit_below : (b : Bool) → digit b < 2
-digit_below true = omega arith
-digit_below false = omega arith
+use Rattle.trellis.specs.Survivors.{before}
 
 -- a bit as a byte is its digit
 pub byte_digit : (b : Bool) → bool_byte b ≡ digit b
@@ -19,7 +16,7 @@ byte_digit false = refl
 
 -- one more bit on the right is taken off again
 pub high_bits : (x : ℕ) (b : Bool) → (2 * x + digit b) / 2 ≡ x
-high_bits x b = omega (arith, digit_below b)
+high_bits x b = omega (arith, digit_le b)
 
 -- a number below 2 is a digit
 digit_of : (r : ℕ) → r < 2 → digit (eqb r 1) ≡ r
@@ -34,18 +31,6 @@ num_same f g (suc n) t s h =
     let e = num_same f g n t s (λ i l. h i (omega arith)) in
     let d = ap digit (h n (omega arith)) in
     omega arith
-
-pub num_below : (f : ℕ → Bool) (n t : ℕ) → num f n t < 2 ^ n
-num_below f zero t = omega arith
-num_below f (suc n) t = let ih = num_below f n t in omega (arith, pow-succ' 2 n, digit_below (f (t + n)))
-
--- a window is its first bit, and the state that its step leads to
-pub num_high : (f : ℕ → Bool) (n t : ℕ) → num f (suc n) t ≡ window n (f t) (num f n (suc t))
-num_high f zero t = let e : digit (f (t + 0)) ≡ digit (f t) = ap (λ i. digit (f i)) (omega arith) in omega arith
-num_high f (suc n) t =
-    let ih = num_high f n t in
-    let e : digit (f (t + suc n)) ≡ digit (f (suc t + n)) = ap (λ i. digit (f i)) (omega arith) in
-    omega (arith, ap (λ p. digit (f t) * p) (pow-succ' 2 n))
 
 -- the state before a step, from the state after it
 pub num_before : (f : ℕ → Bool) (m t : ℕ) → before m (f t) (num f m (suc t)) ≡ num f m t

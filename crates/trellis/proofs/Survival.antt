@@ -6,7 +6,8 @@ use Rattle.code.specs.Numbers.{num}
 use Rattle.trellis.specs.Steps.{Steps, Ordered, path_score}
 use Rattle.trellis.specs.Survivors.{window, before, way, survivor, mark}
 use Rattle.trellis.specs.Choice.{back}
-use Rattle.trellis.proofs.Bits.{num_high, num_before}
+use Rattle.code.proofs.Blocks.{num_high}
+use Rattle.trellis.proofs.Bits.{num_before}
 
 -- a bit that a forced one lets
 abbrev pub Lets : Option Bool → Bool → Type 0

@@ -1,5 +1,6 @@
 use Rattle.std.proofs.Common.{◌≡◌, ◌+◌, ◌*◌, ap, ◌∙◌, arith}
-use Rattle.trellis.proofs.Bits.{byte_digit, digit_below}
+use Rattle.code.proofs.Blocks.{digit_le}
+use Rattle.trellis.proofs.Bits.{byte_digit}
 use Rattle.search.proofs.Eights.{done_more, done_marks, done_scores, done_fits}
 use Rattle.search.proofs.step.Step.eight.Goals as goal
 
@@ -10,7 +11,7 @@ pub overflow_add-byte : goal.overflow_add-byte
 overflow_add-byte g c =
     let h = done_fits _ _ _ _ _ c.loop-i.i c.loop-i.byte _ c.loop-i-test.true c.loop-i.invariant in
     let e = c.from.ensures ∙ byte_digit c.survivor-mark.result.0 in
-    omega (arith, digit_below c.survivor-mark.result.0)
+    omega (arith, digit_le c.survivor-mark.result.0)
 
 pub loop-i-preserved : goal.loop-i-preserved
 loop-i-preserved g c =
