@@ -6,9 +6,9 @@ use Rattle.std.proofs.Math.Seq.{paste}
 use Rattle.std.specs.List.{range_with_len}
 use Rattle.std.proofs.lemmas.List.{drop_all, append-nil}
 use Rattle.std.proofs.lemmas.List.Edits.{paste_none, paste_more, paste_all}
-use Rattle.std.proofs.lemmas.List.FromFn.{length-map-range_with_len, get_or-map-range_with_len}
+use Rattle.std.proofs.lemmas.List.FromFn.{length-range_with_len, length-map-range_with_len, get_or-map-range_with_len}
 use Rattle.std.proofs.lemmas.Slice.{put_mid-paste}
-use Rattle.code.proofs.Filled.{filled_same}
+use Rattle.std.proofs.lemmas.Simd.{splat_is_map}
 use Rattle.receiver.specs.Values.{with_values}
 
 -- values that are pasted in are set one after the other
@@ -35,7 +35,7 @@ run_set f xs ys start end first count begins ends room e =
 pub run_cleared : (xs ys : List ℤ) (start end first count : ℕ) → start ≡ first → end ≡ start + count → end ≤ length xs →
     ys ≡ replicate (length (mid_of start (end - start) xs)) (pos 0) → put_mid start (end - start) xs ys ≡ with_values xs first (λ _. pos 0) count
 run_cleared xs ys start end first count begins ends room e =
-    run_set (λ _ _. pos 0) xs ys start end first count begins ends room (e ∙ sym (filled_same 0 _ (pos 0)))
+    run_set (λ _ _. pos 0) xs ys start end first count begins ends room (e ∙ splat_is_map (range_with_len 0 _) _ (pos 0) (length-range_with_len 0 _))
 
 -- all of a list, set one value after the other
 pub all_set : (xs : List ℤ) (f : ℕ → ℤ) → with_values xs 0 f (length xs) ≡ map f (range_with_len 0 (length xs))

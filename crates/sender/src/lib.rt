@@ -12,22 +12,15 @@ pub use sender::Sender;
 #[cfg(test)]
 mod tests {
     use super::*;
-    use plan::{ChainFault, Parts, Plan};
+    use plan::ChainFault;
+    use samples::small_plan;
     use scrambler::Table;
     use std::alloc::Global;
     use std::test::Fail;
 
     // The on-air indices of the block 100000000, four symbols of three bits, and a byte that stays.
     fn sent(heap: Global) -> Result<[u8; 5], ChainFault> {
-        let plan = Plan::new(Parts {
-            constraint: 7,
-            period: 3,
-            send_list: vec![in heap; 0, 1, 2, 5]?,
-            block_length: 9,
-            symbol_bits: 3,
-            frame_length: 4,
-            increment: 5,
-        })?;
+        let plan = small_plan(heap, 7)?;
         let table = Table::new(3, vec![in heap; 1, 2, 3, 4]?)?;
         let mut sender = Sender::new(heap, &plan, table)?;
         let mut out = [9; 5];
@@ -37,10 +30,7 @@ mod tests {
 
     #[test]
     fn known_block(rt: HostRuntime) -> Result<(), Fail> {
-        let Ok(out) = sent(rt.alloc()) else {
-            return Err(Fail::new("refused"));
-        };
-        assert_eq!(rt; out, [6, 5, 3, 3, 9]);
+        assert_eq!(rt; sent(rt.alloc()), Ok([6, 5, 3, 3, 9]));
         Ok(())
     }
 
