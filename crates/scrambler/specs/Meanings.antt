@@ -8,8 +8,8 @@ use Rattle.scrambler.specs.declared.register.Register.{Register}
 
 -- a table means the values that it holds
 abbrev pub table_meaning : Table → Meaning
-table_meaning t = record { width = t.width; values = vec_items t.values }
+table_meaning t = record { width = t.width.bits; values = vec_items t.values }
 
 -- a register means the values drawn from the load on, wherever it stands
 abbrev pub register_meaning : Register → Meaning
-register_meaning r = record { width = r.width; values = drawn_values r.width }
+register_meaning r = record { width = r.width.bits; values = drawn_values r.width.bits }

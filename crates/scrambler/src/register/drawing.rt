@@ -1,5 +1,5 @@
 // How a register is made, and how it draws its values.
-ghost use Rattle.std.specs.Prelude.{◌≡◌, ◌*◌, ◌%◌, ◌^◌, ◌<◌, ◌≤◌, IfOk};
+ghost use Rattle.std.specs.Prelude.{◌≡◌, ◌*◌, ◌<◌, IfOk};
 ghost use Rattle.plan.specs.Faults.{chain_number, outcome};
 ghost use Rattle.scrambler.specs.Meanings.{register_meaning};
 ghost use Rattle.scrambler.specs.Questions.{width_fits, making_answer};
@@ -8,7 +8,7 @@ ghost use Rattle.scrambler.specs.Bounds.{drawn_below};
 
 use crate::register::Register;
 use crate::scrambler::Scrambler;
-use crate::width::*;
+use crate::width::Width;
 use plan::ChainFault;
 
 // How many values a register reaches.
@@ -20,11 +20,8 @@ impl Register {
         ensures answer { outcome chain_number result ≡ making_answer (width_fits width) }
         ensures made { IfOk result (λ m. register_meaning m ≡ record { width = width; values = drawn_values width }) }
     {
-        if !width_fits(width) {
-            return Err(ChainFault::Scrambler);
-        }
         Ok(Register {
-            width,
+            width: Width::new(width)?,
             place: 0,
             state: 1,
         })
@@ -33,12 +30,13 @@ impl Register {
     // The register at a place: shifted on from where it stands, or from the load where it stands past the place.
     fn state_at(&self, place: usize) -> u16
         requires { place < 4096 }
-        ensures { result ≡ state_after (place * self.now.width) }
+        ensures { result ≡ state_after (place * self.now.width.bits) }
     {
+        let width = self.width.bits();
         if place < self.place {
-            shifted(1, place * self.width)
+            shifted(1, place * width)
         } else {
-            shifted(self.state, (place - self.place) * self.width)
+            shifted(self.state, (place - self.place) * width)
         }
     }
 }
@@ -70,21 +68,13 @@ fn shifted(state: u16, count: usize) -> u16
     now
 }
 
-// The rightmost bits.
-fn low_bits(state: u16, width: usize) -> u8
-    requires { width ≤ 8 }
-    ensures { result ≡ state % 2 ^ width }
-{
-    (state & ((1 << width) - 1)) as u8
-}
-
 impl Scrambler for Register {
     ghost meaning = { register_meaning };
 
-    ghost bounded = { λ s. drawn_below s.width };
+    ghost bounded = { λ s. drawn_below s.width.bits };
 
     fn width(&mut self) -> usize {
-        self.width
+        self.width.bits()
     }
 
     fn reach(&mut self) -> usize {
@@ -99,6 +89,6 @@ impl Scrambler for Register {
         let state = self.state_at(place);
         self.place = place;
         self.state = state;
-        Some(low_bits(state, self.width))
+        Some(self.width.low_bits(state))
     }
 }

@@ -1,14 +1,14 @@
 // How a table is made, and what it answers.
-ghost use Rattle.std.specs.Prelude.{◌≡◌, ◌^◌, ◌≤◌, ◌&&◌, length, IfOk};
+ghost use Rattle.std.specs.Prelude.{◌≡◌, IfOk};
+ghost use Rattle.std.specs.Cmp.Derive.{both_true};
 ghost use Rattle.plan.specs.Faults.{chain_number, outcome};
-ghost use Rattle.plan.specs.Questions.{within, all_below};
 ghost use Rattle.scrambler.specs.Meanings.{table_meaning};
-ghost use Rattle.scrambler.specs.Questions.{table_fits, making_answer};
+ghost use Rattle.scrambler.specs.Questions.{values_fit, table_fits, making_answer};
 ghost use Rattle.scrambler.specs.Bounds.{table_below};
 
 use crate::scrambler::Scrambler;
 use crate::table::Table;
-use crate::width::*;
+use crate::width::Width;
 use plan::{ChainFault, all_below};
 
 impl Table {
@@ -17,35 +17,30 @@ impl Table {
         ensures answer { outcome chain_number result ≡ making_answer (table_fits width values.items) }
         ensures made { IfOk result (λ t. table_meaning t ≡ record { width = width; values = values.items }) }
     {
-        if !table_fits(width, values.as_slice()) {
-            return Err(ChainFault::Scrambler);
-        }
+        let width = Width::new(width)?;
+        check_values(width, values.as_slice())?;
         Ok(Table { width, values })
     }
 }
 
-// Whether a table may have this width and these values.
-fn table_fits(width: usize, values: &[u8]) -> bool
-    ensures { result ≡ table_fits width values.now }
+// Asks that these are 1 to 4,096 values of the width.
+fn check_values(width: Width, values: &[u8]) -> Result<(), ChainFault>
+    ensures { outcome chain_number result ≡ making_answer (values_fit width.bits values.now) }
 {
-    width_fits(width) && values_fit(width, values)
-}
-
-// Whether these are 1 to 4,096 values of the width.
-fn values_fit(width: usize, values: &[u8]) -> bool
-    requires { width ≤ 8 }
-    ensures { result ≡ (within 1 4096 (length values.now) && all_below (2 ^ width) values.now) }
-{
-    matches!(values.len(), 1..=4096) && all_below(values, values_of(width))
+    if matches!(values.len(), 1..=4096) && all_below(values, width.values()) {
+        Ok(())
+    } else {
+        Err(ChainFault::Scrambler)
+    }
 }
 
 impl Scrambler for Table {
     ghost meaning = { table_meaning };
 
-    ghost bounded = { λ s. table_below s.width s.values.items s.fits };
+    ghost bounded = { λ s. table_below s.width.bits s.values.items (both_true s.width.fits s.fits) };
 
     fn width(&mut self) -> usize {
-        self.width
+        self.width.bits()
     }
 
     fn reach(&mut self) -> usize {

@@ -9,6 +9,8 @@ shifted-requires-else-place-self c = rw c.args.self.now.stands (state_below _)
 pub returns-else-place-self : goal.returns-else-place-self
 returns-else-place-self c =
     let register = c.args.self.now in
+    let same = c.bits-width.ensures in
     c.shifted-else-place-self.ensures
-    ∙ ap (shifts ((c.args.place - register.place) * register.width)) register.stands
-    ∙ onward register.width register.place c.args.place c.if-place-self.false
+    ∙ ap (λ w. shifts ((c.args.place - register.place) * w) register.state) same
+    ∙ ap (shifts ((c.args.place - register.place) * register.width.bits)) register.stands
+    ∙ onward register.width.bits register.place c.args.place c.if-place-self.false
