@@ -42,6 +42,7 @@ impl<'p, S: Scrambler> Sender<'p, S> {
         ensures kept { Kept S.meaning self.old self.new }
     {
         let length = self.plan.parts().frame_length;
+        // by number: what `chunks_exact_mut` lends is not known afterwards
         for frame in 0..self.plan.symbols() / length {
             let first = frame * length;
             self.write_frame(first, &mut out[first..first + length]);
