@@ -12,6 +12,7 @@ use Rattle.receiver.specs.Receivers.{view_of}
 use Rattle.receiver.specs.Views.{View}
 use Rattle.receiver.specs.declared.receiver.Receiver.{Receiver}
 use Rattle.scrambler.specs.Meanings.{table_meaning}
+use Rattle.scrambler.specs.declared.scrambler.Scrambler.{Ghosts}
 use Rattle.scrambler.specs.declared.table.Table.{Table}
 use Rattle.session.specs.Held.{Held, asked, with_call, answer, after, Replies}
 
@@ -23,7 +24,7 @@ pub record Obeys (h : Held) (c : Command) (r : Result Answer LineFault) (left : 
 
 module _ (number : View → List ℤ → ℕ) (leaves : View → List ℤ → List ℤ) where
   -- a call of a receiver that answers this number, and leaves these values where it is accepted
-  pub record Makes {R : Type 0} (x : Receiver Table) (values : List ℤ) (r : Result R ChainFault) (left : List ℤ) : Type 0 where
+  pub record Makes {g : Ghosts Table} {R : Type 0} (x : Receiver Table g) (values : List ℤ) (r : Result R ChainFault) (left : List ℤ) : Type 0 where
     pub answer : outcome chain_number r ≡ number (view_of table_meaning x) values
     pub after : left ≡ cond (is_ok r) (leaves (view_of table_meaning x) values) values
 
