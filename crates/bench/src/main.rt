@@ -6,7 +6,7 @@ use session::{CommandRoom, Session};
 use std::io;
 use std::io::{BufReader, Bytes, Read};
 
-// Reads the next line, without its line feed. Whether there is one: no byte after the last line feed is no line.
+// Reads the next line, without its line feed. False where nothing follows the last line feed.
 fn read_line<R: Read + Drop>(input: &mut Bytes<R>, line: &mut Line) -> io::Result<bool> {
     line.clear();
     for byte in input {

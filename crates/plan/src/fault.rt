@@ -90,6 +90,7 @@ impl From<ChainFault> for u8 {
     }
 }
 
+// By a match, as plain as a derive's attributes: the chain needs no crate but the library.
 impl fmt::Display for PlanFault {
     fn fmt<W: fmt::Write>(&self, f: &mut fmt::Formatter<W>) -> fmt::Result {
         f.write_str(match self {

@@ -49,7 +49,7 @@ pub(crate) fn frame_fits(frame_length: usize, symbol_bits: usize, sent_length: u
     (1..=4096).contains(&frame_length) && is_multiple(sent_length, symbol_bits * frame_length)
 }
 
-// Whether a and n share no divisor above 1, by Euclid's rule.
+// Whether a and n share no divisor above 1, by Euclid's rule; the library has no greatest common divisor.
 pub(crate) fn is_coprime(a: usize, n: usize) -> bool
     requires { 0 < n }
     ensures { result ≡ coprime a n }

@@ -3,6 +3,7 @@ ghost use Rattle.std.specs.Prelude.{◌≡◌, ◌<◌, ◌≤◌, length};
 
 use crate::rate::Rate;
 
+// The two rows of a mask stand as the standard prints them, one below the other, so that they can be compared.
 #[derive(Clone, Copy)]
 pub(crate) struct Pattern {
     // for each repeated pair, in the order of time: '1' where its first bit is sent

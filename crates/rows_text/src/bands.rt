@@ -36,11 +36,10 @@ pub fn print_bands(rt: &HostRuntime) -> io::Result<()> {
 
 // How many rows there are, also under numbers that no waveform and no interleaver has.
 fn rows_of(bandwidth: usize) -> usize {
-    let mut rows = 0;
-    for waveform in 0..32 {
-        rows += interleavers_of(bandwidth, waveform);
-    }
-    rows
+    (0..32).fold(
+        0usize,
+        |rows, waveform| rows.saturating_add(interleavers_of(bandwidth, waveform)),
+    )
 }
 
 // How many rows a waveform has.

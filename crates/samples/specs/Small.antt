@@ -20,5 +20,5 @@ abbrev pub small_answer : ℕ → ℕ
 small_answer k = cond (k == 7 || k == 9) 0 1
 
 -- a call answered this number, or that there is no memory left
-abbrev pub Answered : ℕ → ℕ → Type 0
-Answered number answer = (number ≡ answer) ⊎ (number ≡ 255)
+abbrev pub AnsweredOrNoMemory : ℕ → ℕ → Type 0
+AnsweredOrNoMemory number answer = (number ≡ answer) ⊎ (number ≡ 255)

@@ -4,14 +4,14 @@
 ghost use Rattle.std.specs.Prelude.{◌≡◌, IfOk};
 ghost use Rattle.plan.specs.Faults.{chain_number, outcome};
 ghost use Rattle.plan.specs.Plans.{plan_scheme};
-ghost use Rattle.samples.specs.Small.{small_scheme, small_answer, Answered};
+ghost use Rattle.samples.specs.Small.{small_scheme, small_answer, AnsweredOrNoMemory};
 
 use plan::{ChainFault, Parts, Plan};
 use std::alloc::Global;
 
 // A plan of nine bits that sends twelve, three to a symbol. Its send list is new memory, which may be wanting.
 pub fn small_plan(heap: Global, constraint: usize) -> Result<Plan, ChainFault>
-    ensures answer { Answered (outcome chain_number result) (small_answer constraint) }
+    ensures answer { AnsweredOrNoMemory (outcome chain_number result) (small_answer constraint) }
     ensures made { IfOk result (λ p. plan_scheme p ≡ small_scheme constraint) }
 {
     let parts = Parts {

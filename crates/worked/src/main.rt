@@ -6,15 +6,6 @@ use plan::Plan;
 use rows::{Entry, Row};
 use std::io;
 
-// What is printed of a waveform.
-#[derive(Clone, Copy)]
-enum Example {
-    Locations,
-    SendList,
-    // the symbol of these bits
-    Symbol(u8),
-}
-
 // Where the first nine sent bits are loaded.
 fn print_locations(rt: &HostRuntime, plan: &Plan) -> io::Result<()> {
     print!(rt; "load locations:")?;
@@ -44,33 +35,30 @@ fn print_symbol(rt: &HostRuntime, number: u8, plan: &Plan) -> io::Result<()> {
     println!(rt; "{number:0bits$b} is symbol {symbol}")
 }
 
-// The row at 3 kHz with the shortest interleaver, and constraint length 7.
-fn print_example(rt: &HostRuntime, waveform: usize, example: Example) -> io::Result<()> {
+// Prints an example of the plan of the row at 3 kHz with the shortest interleaver, and constraint length 7.
+fn print_example<F: FnOnce(Row, &Plan) -> io::Result<()>>(
+    rt: &HostRuntime,
+    waveform: usize,
+    print: F,
+) -> io::Result<()>
+    requires { F.IsAlwaysCallable print }
+{
     let row = Row {
         bandwidth: 3,
         waveform,
         interleaver: 0,
     };
-    let Ok(plan) = row.plan(rt.alloc(), 7) else {
-        return println!(rt; "waveform {waveform} is refused");
-    };
-    match example {
-        Example::Locations => print_locations(rt, &plan),
-        Example::SendList => print_list(rt, row, &plan),
-        Example::Symbol(number) => print_symbol(rt, number, &plan),
+    match row.plan(rt.alloc(), 7) {
+        Ok(plan) => print(row, &plan),
+        Err(_) => println!(rt; "waveform {waveform} is refused"),
     }
 }
 
 fn main(rt: HostRuntime) -> io::Result<()> {
-    for (waveform, example) in [
-        (1, Example::Locations),
-        (2, Example::SendList),
-        (3, Example::SendList),
-        (5, Example::SendList),
-        (8, Example::Symbol(0b0111)),
-        (10, Example::Symbol(0b10_0011)),
-    ] {
-        print_example(&rt, waveform, example)?;
+    print_example(&rt, 1, |_, plan| print_locations(&rt, plan))?;
+    for waveform in [2, 3, 5] {
+        print_example(&rt, waveform, |row, plan| print_list(&rt, row, plan))?;
     }
-    Ok(())
+    print_example(&rt, 8, |_, plan| print_symbol(&rt, 0b0111, plan))?;
+    print_example(&rt, 10, |_, plan| print_symbol(&rt, 0b10_0011, plan))
 }

@@ -9,7 +9,7 @@ use crate::rate::Rate;
 use crate::row::{Entry, Row};
 use crate::table::{Depth, Setting, printed};
 
-// The bandwidths in kHz, in the table's order.
+// The bandwidths in kHz, in the table's order: a list of its own, as the table is printed a bandwidth at a time.
 static BANDWIDTHS: [usize; 12] = [3, 6, 9, 12, 15, 18, 21, 24, 30, 36, 42, 48];
 
 // The place of a bandwidth in the table.
