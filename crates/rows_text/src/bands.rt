@@ -1,6 +1,4 @@
 // A block of lines for each bandwidth: its waveforms, and what its columns add up to.
-ghost use Rattle.std.specs.Prelude.{◌≤◌};
-
 use rows::{Entry, Row};
 use std::io;
 
@@ -43,9 +41,7 @@ fn rows_of(bandwidth: usize) -> usize {
 }
 
 // How many rows a waveform has.
-fn interleavers_of(bandwidth: usize, waveform: usize) -> usize
-    ensures { result ≤ 8 }
-{
+fn interleavers_of(bandwidth: usize, waveform: usize) -> usize {
     (0..8)
         .filter_map(|interleaver| {
             (Row {
