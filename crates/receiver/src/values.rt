@@ -25,6 +25,7 @@ fn value_for(weight: u16, bit: bool) -> i16
 }
 
 // Bit i of a number of so many bits, the first highest.
+// Not shared with the search: a function for both would be public, and so would have to answer for every `bits` and `i`.
 fn bit_at(number: u8, bits: usize, i: usize) -> bool
     requires { (i < bits) × (bits ≤ 8) }
     ensures { result ≡ bit_of bits number i }
