@@ -30,6 +30,7 @@ impl<'p, 'a, 'm, 'c, K: Kind> Workspace<'p, 'a, 'm, 'c, K> {
 }
 
 // The bit that is forced at step t: one of the bits of a number of so many bits.
+// Not one function with the receiver's `bit_at`: a public one asks nothing, and would test at every bit that the shift is in range.
 fn forced_bit(bits: usize, number: usize, t: usize) -> Option<bool>
     requires { bits ≤ 8 }
     ensures { result ≡ prefix bits bits number t }

@@ -4,11 +4,13 @@ ghost use Rattle.trellis.specs.Marks.{lit, marked};
 ghost use Rattle.search.specs.Stepping.{scale_of, mark_of, next_of};
 
 use crate::step::Step;
+use crate::step::ways::Node;
 use score::Kind;
 use trellis::Column;
 
 impl<'p, 'a, K: Kind> Step<'p, 'a, K> {
     // Eight states: their scores go into the new column, their marks into a byte, the first in the lowest bit.
+    // Here and in `run` a clause says that the new column is long enough: a step holds no column, and takes both as parameters.
     fn eight(&self, old: &Column<'_, K::Score>, new: &mut Column<'_, K::Score>, group: usize) -> u8
         requires { (8 * group + 8 ≤ 2 ^ self.now.pass.now.trellis.memory) × (2 ^ self.now.pass.now.trellis.memory ≤ length new.old.scores.now) }
         ensures marks { (i : ℕ) → i < 8 → lit result i ≡ mark_of self.now old.now.scores.now (8 * group + i) }
@@ -19,7 +21,12 @@ impl<'p, 'a, K: Kind> Step<'p, 'a, K> {
         let mut byte = 0;
         for i in (0..8).rev() {
             let state = 8 * group + i;
-            let (mark, score) = self.survivor(old, state);
+            let node = Node {
+                step: self,
+                old,
+                state,
+            };
+            let (mark, score) = node.survivor();
             new.put(state, score);
             byte = 2 * byte + u8::from(mark);
         }

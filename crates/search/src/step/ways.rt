@@ -6,21 +6,49 @@ ghost use Rattle.search.specs.Stepping.{scale_of, way_of, mark_of, next_of};
 use crate::step::Step;
 use code::parity;
 use score::Kind;
-use trellis::{Column, Trellis};
+use trellis::Column;
 
-impl<'p, 'a, K: Kind> Step<'p, 'a, K> {
-    // The bit that the surviving way into a state shifts out, and its score: the forced way, else the better one, of equals that of 0.
-    pub(crate) fn survivor(&self, old: &Column<'_, K::Score>, state: usize) -> (bool, K::Score)
-        requires { state < 2 ^ self.now.pass.now.trellis.memory }
-        ensures mark { result.0 ≡ mark_of self.now old.now.scores.now state }
-        ensures score { result.1 ≡ next_of self.now old.now.scores.now state }
+// A state that a step leads into, from the column of the scores before the step.
+#[derive(Drop)]
+pub(crate) struct Node<'s, 'p, 'a, 'c, K: Kind> {
+    pub step: &'s Step<'p, 'a, K>,
+    pub old: &'s Column<'c, K::Score>,
+    pub state: usize,
+    ghost below: { state < 2 ^ step.now.pass.now.trellis.memory },
+}
+
+impl<'s, 'p, 'a, 'c, K: Kind> Node<'s, 'p, 'a, 'c, K> {
+    // The bit that the surviving way shifts out, and its score: the forced way, else the better one, of equals that of 0.
+    pub(crate) fn survivor(&self) -> (bool, K::Score)
+        ensures mark { result.0 ≡ mark_of self.now.step.now self.now.old.now.scores.now self.now.state }
+        ensures score { result.1 ≡ next_of self.now.step.now self.now.old.now.scores.now self.now.state }
     {
-        match self.forced {
-            Some(bit) => (bit, self.way(old, state, bit)),
-            None => self.better(self.way(old, state, false), self.way(old, state, true)),
+        match self.step.forced {
+            Some(bit) => (bit, self.way(bit)),
+            None => self.step.better(self.way(false), self.way(true)),
         }
     }
 
+    // The score by the way that shifts this bit out.
+    fn way(&self, bit: bool) -> K::Score
+        ensures { result ≡ way_of self.now.step.now self.now.old.now.scores.now self.now.state bit }
+    {
+        let step = self.step;
+        let before = step.pass.trellis.before(bit, self.state);
+        let score = self.old.at(before, step.pass.kind.start());
+        let bits = parity(step.pass.plan, self.window(bit));
+        step.values.absorb(step.pass.kind, bits, score)
+    }
+
+    // The window of the way that shifts this bit out.
+    fn window(&self, bit: bool) -> u16
+        ensures { result ≡ window self.now.step.now.pass.now.trellis.memory bit self.now.state }
+    {
+        (usize::from(bit) * self.step.pass.trellis.states() + self.state) as u16
+    }
+}
+
+impl<'p, 'a, K: Kind> Step<'p, 'a, K> {
     // Of the ways that shift 0 and 1 out the better one; of equals the first.
     fn better(&self, zero: K::Score, one: K::Score) -> (bool, K::Score)
         ensures mark { result.0 ≡ not ((scale_of self.now.pass.now).no_worse zero one) }
@@ -32,22 +60,4 @@ impl<'p, 'a, K: Kind> Step<'p, 'a, K> {
             (true, one)
         }
     }
-
-    // The score at a state by the way that shifts this bit out.
-    fn way(&self, old: &Column<'_, K::Score>, state: usize, bit: bool) -> K::Score
-        requires { state < 2 ^ self.now.pass.now.trellis.memory }
-        ensures { result ≡ way_of self.now old.now.scores.now state bit }
-    {
-        let score = old.at(self.pass.trellis.before(bit, state), self.pass.kind.start());
-        let bits = parity(self.pass.plan, window_of(self.pass.trellis, bit, state));
-        self.values.absorb(self.pass.kind, bits, score)
-    }
-}
-
-// The window of the step into a state that shifts this bit out.
-fn window_of(trellis: Trellis, bit: bool, state: usize) -> u16
-    requires { state < 2 ^ trellis.memory }
-    ensures { result ≡ window trellis.memory bit state }
-{
-    (usize::from(bit) * trellis.states() + state) as u16
 }
