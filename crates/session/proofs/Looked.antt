@@ -1,26 +1,20 @@
 -- What a look of the session shows.
 -- Assumes nothing.
-use Rattle.std.proofs.Common.{◌≡◌, ℕ, zero, suc, ◌*◌, ◌/◌, ◌^◌, ◌≤◌, Bool, true, cond, leb, List, length, get_or, take, ℤ, is_ok, IfOk, Ok, Err, Result, refl, ap, ◌∙◌, ⊎_elim, arith, length-set}
+use Rattle.std.proofs.Common.{◌≡◌, ℕ, ◌*◌, ◌/◌, ◌^◌, ◌≤◌, true, cond, leb, List, length, get_or, take, ℤ, is_ok, IfOk, Ok, Err, Result, refl, ap, ◌∙◌, ⊎_elim, arith}
 use Rattle.std.proofs.lemmas.Bool.{and_parts, leb-true, le-leb}
 use Rattle.plan.specs.Questions.{plan_answer}
 use Rattle.plan.specs.Scheme.{Scheme, sent_length}
 use Rattle.plan.specs.declared.fault.ChainFault.{ChainFault}
 use Rattle.plan.proofs.Facts.{facts}
-use Rattle.code.specs.Numbers.{bits_of, digit}
+use Rattle.code.specs.Numbers.{bits_of}
 use Rattle.lines.specs.Plans.{size_fits}
 use Rattle.score.specs.Blocks.{value_at}
 use Rattle.score.specs.Kinds.{total_scale}
 use Rattle.search.specs.Looking.{Found, Lengths, shown, search_answer}
 use Rattle.search.specs.Searching.{memory}
-use Rattle.trellis.specs.Marks.{overwritten}
-use Rattle.trellis.proofs.Written.{overwritten_at}
+use Rattle.trellis.proofs.Written.{overwritten_at, overwritten_length}
 use Rattle.receiver.specs.Views.{View}
 use Rattle.session.specs.Held.{Shows}
-
-overwritten_long : (n : ℕ) (u : ℕ → Bool) (bytes : List ℕ) → length (overwritten n u bytes) ≡ length bytes
-unfolding overwritten
-overwritten_long zero u bytes = refl
-overwritten_long (suc n) u bytes = length-set (overwritten n u bytes) n (digit (u n)) ∙ overwritten_long n u bytes
 
 -- the memory of a session is enough for every small plan
 pub small_enough : (s : Scheme) (l : Lengths) → plan_answer s ≡ 0 → size_fits s ≡ true → l.values ≡ 1024 → l.block ≡ s.block → l.old ≡ 256 → l.new ≡ 256 → l.marks ≡ 8192 → search_answer s l ≡ 0
@@ -43,7 +37,7 @@ pub shows_from : (v : View) (values : List ℤ) (before now : List ℕ) → leng
     IfOk r (λ score. Found total_scale v.scheme (value_at (take (sent_length v.scheme) values)) (bits_of now) score) →
     now ≡ cond (is_ok r) (shown total_scale v.scheme (value_at (take (sent_length v.scheme) values)) before) before → IfOk r (λ score. Shows v values score now)
 shows_from v values before now long (Ok score) found is = record {
-  long = ap length is ∙ overwritten_long v.scheme.block _ before ∙ long;
+  long = ap length is ∙ overwritten_length v.scheme.block _ before ∙ long;
   bits = λ i lt. ap (λ l. get_or l i 0) is ∙ overwritten_at v.scheme.block _ before i lt (omega arith);
   best = found;
 }

@@ -30,6 +30,7 @@ pub(crate) fn look(
     ensures answer { outcome chain_number result ≡ 0 }
     ensures shows { IfOk result (λ score. Shows (view_of table_meaning receiver.now) memory.now score block.new) }
 {
+    // Split in place: the proof of what a memory ends as closes for a function that answers two slices, and not for one that answers two columns.
     let (first, second) = scores.split_at_mut(SCORES / 2);
     let mut old = Column { scores: first };
     let mut new = Column { scores: second };
