@@ -21,12 +21,8 @@ impl<'p, 'a, K: Kind> Step<'p, 'a, K> {
         let mut byte = 0;
         for i in (0..8).rev() {
             let state = 8 * group + i;
-            let node = Node {
-                step: self,
-                old,
-                state,
-            };
-            let (mark, score) = node.survivor();
+            let node = Node { step: self, state };
+            let (mark, score) = node.survivor(old);
             new.put(state, score);
             byte = 2 * byte + u8::from(mark);
         }

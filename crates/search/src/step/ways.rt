@@ -8,34 +8,33 @@ use code::parity;
 use score::Kind;
 use trellis::Column;
 
-// A state that a step leads into, from the column of the scores before the step.
+// A state that a step leads into. The old column stays a parameter: with it in the struct a search took a tenth longer.
 #[derive(Drop)]
-pub(crate) struct Node<'s, 'p, 'a, 'c, K: Kind> {
+pub(crate) struct Node<'s, 'p, 'a, K: Kind> {
     pub step: &'s Step<'p, 'a, K>,
-    pub old: &'s Column<'c, K::Score>,
     pub state: usize,
     ghost below: { state < 2 ^ step.now.pass.now.trellis.memory },
 }
 
-impl<'s, 'p, 'a, 'c, K: Kind> Node<'s, 'p, 'a, 'c, K> {
+impl<'s, 'p, 'a, K: Kind> Node<'s, 'p, 'a, K> {
     // The bit that the surviving way shifts out, and its score: the forced way, else the better one, of equals that of 0.
-    pub(crate) fn survivor(&self) -> (bool, K::Score)
-        ensures mark { result.0 ≡ mark_of self.now.step.now self.now.old.now.scores.now self.now.state }
-        ensures score { result.1 ≡ next_of self.now.step.now self.now.old.now.scores.now self.now.state }
+    pub(crate) fn survivor(&self, old: &Column<'_, K::Score>) -> (bool, K::Score)
+        ensures mark { result.0 ≡ mark_of self.now.step.now old.now.scores.now self.now.state }
+        ensures score { result.1 ≡ next_of self.now.step.now old.now.scores.now self.now.state }
     {
         match self.step.forced {
-            Some(bit) => (bit, self.way(bit)),
-            None => self.step.better(self.way(false), self.way(true)),
+            Some(bit) => (bit, self.way(old, bit)),
+            None => self.step.better(self.way(old, false), self.way(old, true)),
         }
     }
 
     // The score by the way that shifts this bit out.
-    fn way(&self, bit: bool) -> K::Score
-        ensures { result ≡ way_of self.now.step.now self.now.old.now.scores.now self.now.state bit }
+    fn way(&self, old: &Column<'_, K::Score>, bit: bool) -> K::Score
+        ensures { result ≡ way_of self.now.step.now old.now.scores.now self.now.state bit }
     {
         let step = self.step;
         let before = step.pass.trellis.before(bit, self.state);
-        let score = self.old.at(before, step.pass.kind.start());
+        let score = old.at(before, step.pass.kind.start());
         let bits = parity(step.pass.plan, self.window(bit));
         step.values.absorb(step.pass.kind, bits, score)
     }
