@@ -63,7 +63,7 @@ fn carry_out<S: Scrambler + Drop, K: Kind>(
     }
 }
 
-// Carries out every call, and adds its answer. The memory for the answers is there before.
+// Carries out every call, and adds its answer. The memory for the answers is there before; the memories are parameters as in `carry_out`.
 pub(crate) fn run<S: Scrambler + Drop, K: Kind>(
     receiver: &mut Receiver<S>,
     kind: &K,

@@ -16,7 +16,7 @@ use score::Kind;
 use scrambler::Scrambler;
 use trellis::Column;
 
-// Half of the memory for scores goes to each column.
+// Half of the memory for scores goes to each column. Split in place: no proof closes for a function that answers two columns.
 pub(crate) fn look_lent<'a, S: Scrambler + Drop, K: Kind>(
     receiver: &'a Receiver<S>,
     kind: &'a K,

@@ -49,6 +49,7 @@ pub(crate) struct Agreement {
 }
 
 // The search against the engine. One memory is lent for both columns: an array here has no known size, as the kind is open.
+// Split in place: no proof closes for a function that answers two columns.
 pub(crate) fn compared<K: Kind>(
     plan: &Plan,
     kind: &K,
