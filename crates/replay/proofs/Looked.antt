@@ -2,7 +2,7 @@
 -- Assumes nothing.
 use Rattle.std.proofs.Common.{◌≡◌, ℕ, zero, suc, ◌+◌, ◌*◌, ◌/◌, ◌%◌, ◌^◌, ◌<◌, ◌≤◌, min, Bool, true, false, cond, eqb, leb, ◌≢◌, List, ◌++◌, map, length, take, drop, set, ℤ, is_ok, IfOk, Ok, Err, Result, sym, refl, ap, ◌∙◌, subst, mod-lt, add-one, arith}
 use Rattle.std.specs.List.{range_with_len}
-use Rattle.std.proofs.lemmas.List.{length-set, length-take-le, get_or_append_left, take-append-drop, take-take, drop-set-lt}
+use Rattle.std.proofs.lemmas.List.{length-take-le, get_or_append_left, take-append-drop, take-take, drop-set-lt}
 use Rattle.std.proofs.lemmas.Bool.{true≢false, and_parts, and_from, leb-true, le-leb, both_ways}
 use Rattle.plan.specs.Faults.{chain_number, outcome}
 use Rattle.plan.specs.Scheme.{Scheme, sent_length}
@@ -16,6 +16,7 @@ use Rattle.score.specs.Scale.{Scale}
 use Rattle.search.specs.Looking.{Found, Lengths, long_enough, search_answer, shown}
 use Rattle.search.specs.Searching.{memory as state_bits, steps}
 use Rattle.trellis.specs.Choice.{picked}
+use Rattle.trellis.proofs.Written.{overwritten_length}
 use Rattle.trellis.specs.Marks.{overwritten}
 use Rattle.replay.specs.declared.call.Lent.{Lent}
 use Rattle.replay.specs.Ledger.{lent_of}
@@ -54,11 +55,6 @@ look_refused s whole lent (Err fault) e short = refl
 module _ {X : Type 0} where
   pub refused_is : (r : Result X ChainFault) (n : ℕ) → outcome chain_number r ≡ n → is_ok r ≡ false → n ≢ 0
   refused_is r n e refused z = both_ways (is_ok r) refused (accepted {X = X} r (e ∙ z))
-
-overwritten_long : (n : ℕ) (u : ℕ → Bool) (bytes : List ℕ) → length (overwritten n u bytes) ≡ length bytes
-unfolding overwritten
-overwritten_long zero u bytes = refl
-overwritten_long (suc n) u bytes = length-set (overwritten n u bytes) n (digit (u n)) ∙ overwritten_long n u bytes
 
 overwritten_front : (n : ℕ) (u : ℕ → Bool) (bytes : List ℕ) (count : ℕ) → take count (overwritten n u bytes) ≡ overwritten n u (take count bytes)
 unfolding overwritten
@@ -109,7 +105,7 @@ module _ {S : Type 0} (k : Scale S) (s : Scheme) where
     -- what was found in the front is found in the whole
     pub found_back : 0 < s.block → (r : Result S ChainFault) → outcome chain_number r ≡ search_answer s l → front ≡ cond (is_ok r) (shown k s lent_values (take n block)) (take n block) → IfOk r (λ score. Found k s lent_values (bits_of front) score) → IfOk r (λ score. Found k s all_values (bits_of (front ++ drop n block)) score)
     found_back low (Ok score) e is found =
-        let long : length front ≡ n = ap length is ∙ overwritten_long s.block _ (take n block) ∙ length-take-le n block room in
+        let long : length front ≡ n = ap length is ∙ overwritten_length s.block _ (take n block) ∙ length-take-le n block room in
         found_same all_values (bits_of front) (bits_of (front ++ drop n block)) score low
         (λ i h. ap (λ b. eqb b 1) (sym (get_or_append_left front (drop n block) 0 i (omega (arith, block_yes s l (sym e))))))
         (subst (λ v. Found k s v (bits_of front) score) (values_same (sym e)) found)
