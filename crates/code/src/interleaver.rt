@@ -32,28 +32,22 @@ pub fn load(plan: &Plan, word: &[bool], array: &mut [bool]) -> Result<(), ChainF
     ensures answer { outcome chain_number result ≡ load_answer (plan_scheme plan.now) (length word.now) (length array.old) }
     ensures after { array.new ≡ (if is_ok result then interleaved (plan_scheme plan.now) (read word.now) ++ drop (sent_length (plan_scheme plan.now)) array.old else array.old) }
 {
-    if !are_long(plan, word.len(), array.len()) {
-        return Err(ChainFault::TooShort);
-    }
+    check_lengths(plan, word.len(), array.len())?;
     array[..plan.sent_length()].fill(false);
-    load_runs(plan, word, array);
-    Ok(())
-}
-
-fn are_long(plan: &Plan, word: usize, array: usize) -> bool
-    ensures { load_answer (plan_scheme plan.now) word array ≡ (if result then 0 else 13) }
-{
-    word >= 2 * plan.parts().block_length && array >= plan.sent_length()
-}
-
-// One run of the send list after the other.
-fn load_runs(plan: &Plan, word: &[bool], array: &mut [bool])
-    requires { (2 * (plan_scheme plan.now).block ≤ length word.now) × (sent_length (plan_scheme plan.now) ≤ length array.old) }
-    ensures { array.new ≡ loads (plan_scheme plan.now) (read word.now) array.old 0 (sent_length (plan_scheme plan.now)) }
-{
     let parts = plan.parts();
     // nothing is indexed here: the number makes the run
     for number in 0..parts.block_length / parts.period {
         Run { plan, number }.load(word, array);
     }
+    Ok(())
+}
+
+// Asks that a code word and an array are long enough.
+fn check_lengths(plan: &Plan, word: usize, array: usize) -> Result<(), ChainFault>
+    ensures { outcome chain_number result ≡ load_answer (plan_scheme plan.now) word array }
+{
+    if word < 2 * plan.parts().block_length || array < plan.sent_length() {
+        return Err(ChainFault::TooShort);
+    }
+    Ok(())
 }

@@ -18,7 +18,7 @@ fn score_steps<K: Kind>(kind: &K, memory: &[i16], block: &Block<'_>) -> K::Score
     ensures { result ≡ block_score (K.Kind.scale kind.now) (block_scheme block.now) (value_at memory.now) (block_bits block.now) }
 {
     let mut score = kind.start();
-    // nothing is indexed here: the step's number is passed on
+    // by step: a block has its pairs, and the memory its values, by the step's number
     for t in 0..block.len() {
         let bits = block.pair(t).unwrap();
         score = gather(block.plan, memory, t).absorb(kind, bits, score);

@@ -2,7 +2,7 @@
 ghost use Rattle.std.specs.Prelude.{◌≡◌, ◌+◌, ◌*◌, ◌<◌, ◌≤◌, ◌++◌, length, drop, IfOk, IfErr, is_ok, if◌then◌else◌, Some, None, nat_lt};
 ghost use Rattle.code.specs.Blocks.{block_scheme, block_bits};
 ghost use Rattle.code.specs.Coding.{word as code_word, around, coded, is_block};
-ghost use Rattle.code.specs.Numbers.{bits_of, num};
+ghost use Rattle.code.specs.Numbers.{num};
 ghost use Rattle.plan.specs.declared.fault.ChainFault.TheVariants.{Block as NoBlock};
 ghost use Rattle.plan.specs.Plans.{plan_scheme};
 
@@ -15,7 +15,7 @@ impl<'a> Block<'a> {
     // These bytes as a block of the plan, or the refusal where they are none.
     pub fn new(plan: &'a Plan, bytes: &'a [u8]) -> Result<Block<'a>, ChainFault>
         ensures whole { is_ok result ≡ is_block (plan_scheme plan.now) bytes.now }
-        ensures made { IfOk result (λ b. (block_scheme b ≡ plan_scheme plan.now) × (block_bits b ≡ bits_of bytes.now)) }
+        ensures made { IfOk result (λ b. (b.plan.now ≡ plan.now) × (b.bytes.now ≡ bytes.now)) }
         ensures refused { IfErr result (λ fault. fault ≡ NoBlock) }
     {
         if !is_block(plan, bytes) {
@@ -50,7 +50,7 @@ impl<'a> Block<'a> {
         let memory = self.plan.parts().constraint - 1;
         let low = (1 << memory) - 1;
         let mut state = self.number(0, memory);
-        // by index: a proof keeps no element of what is written through a slice's chunks
+        // by index: what `chunks_exact_mut` lends is not known afterwards
         for t in 0..self.len() {
             let window = append(state, self.bit(t + memory));
             let (first, second) = parity(self.plan, window);

@@ -17,7 +17,7 @@ returns g c =
     let u = bits_of c.args.block.now in
     let x = c.score_steps.result in
     let made = c.in_ok-block.ensures.made in
-    let same : block_score k (block_scheme c.in_ok-block.block) values (block_bits c.in_ok-block.block) ≡ block_score k s values u = λ i. block_score k (made.0 i) values (made.1 i) in
+    let same : block_score k (block_scheme c.in_ok-block.block) values (block_bits c.in_ok-block.block) ≡ block_score k s values u = λ i. block_score k (plan_scheme (made.0 i)) values (bits_of (made.1 i)) in
     let is : x ≡ block_score k s values u = subst (λ v. x ≡ v) same c.score_steps.ensures in
     record {
       answer = search rules;

@@ -2,7 +2,7 @@ use Rattle.std.proofs.Common.{◌≡◌, ◌*◌, length}
 use Rattle.code.specs.Numbers.{read}
 use Rattle.code.specs.Sending.{loads}
 use Rattle.plan.specs.Plans.{plan_scheme}
-use Rattle.code.proofs.interleaver.load_runs.Given as goal
+use Rattle.code.proofs.interleaver.load.Given as goal
 
 -- the runs before this one are loaded
 abbrev pub invariant-loop-number : goal.invariant-loop-number
