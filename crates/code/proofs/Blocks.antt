@@ -1,13 +1,14 @@
 -- A block's bits, and the windows that slide over them.
 -- Assumes nothing.
-use Rattle.std.proofs.Common.{◌≡◌, ℕ, zero, suc, ◌+◌, ◌-◌, ◌*◌, ◌%◌, ◌^◌, ◌<◌, ◌≤◌, Bool, true, false, eqb, ltb, List, [], ◌∷◌, length, get_or, sym, ap, ◌∙◌, add-zero, mod-eq_of_lt, mul_left_comm, add-one, arith, pow_mono}
+use Rattle.std.proofs.Common.{◌≡◌, ℕ, zero, suc, ◌+◌, ◌-◌, ◌*◌, ◌%◌, ◌^◌, ◌<◌, ◌≤◌, Bool, true, false, eqb, ltb, List, [], ◌∷◌, length, get_or, take, drop, sym, refl, ap, ◌∙◌, add-zero, zero-add, mod-eq_of_lt, mul_left_comm, add-one, arith, pow_mono}
 use native.Mathlib.Nat.{pow-succ', add-mod_right}
 use Rattle.std.proofs.lemmas.Nat.{mod_low}
+use Rattle.std.proofs.lemmas.List.{get_or-take, get_or-drop}
 use Rattle.std.proofs.lemmas.Bool.{and_parts, ltb-true, eqb-true}
 use Rattle.plan.specs.Questions.{all_below}
 use Rattle.plan.specs.Scheme.{Scheme}
 use Rattle.code.specs.Coding.{is_block}
-use Rattle.code.specs.Numbers.{digit, num}
+use Rattle.code.specs.Numbers.{digit, num, read}
 
 -- an entry of a list whose entries are all below a bound
 pub below_get_or : (bound : ℕ) (xs : List ℕ) (i : ℕ) → all_below bound xs ≡ true → i < length xs → get_or xs i 0 < bound
@@ -48,6 +49,16 @@ num_small f n t h = omega (arith, num_below f n t, pow_mono h)
 -- one bit more
 pub num_more : (f : ℕ → Bool) (n t x y : ℕ) (b : Bool) → x ≡ num f n t → b ≡ f (t + n) → y ≡ 2 * x + digit b → y ≡ num f (n + 1) t
 num_more f n t x y b p q r = r ∙ (λ i. 2 * p i + digit (q i)) ∙ ap (λ m. num f m t) (sym (add-one n))
+
+-- bits that are the same at two places write the same number
+pub num_same : (f g : ℕ → Bool) (n t u : ℕ) → ((i : ℕ) → i < n → f (t + i) ≡ g (u + i)) → num f n t ≡ num g n u
+num_same f g zero t u h = refl
+num_same f g (suc n) t u h = λ i. 2 * num_same f g n t u (λ j lt. h j (omega arith)) i + digit (h n (omega arith) i)
+
+-- a run of a list writes the number that the list writes there
+pub num_run : (xs : List Bool) (first n : ℕ) → num (read (take n (drop first xs))) n 0 ≡ num (read xs) n first
+num_run xs first n =
+    num_same (read (take n (drop first xs))) (read xs) n 0 first (λ i h. ap (read (take n (drop first xs))) (zero-add i) ∙ get_or-take n (drop first xs) i false h ∙ get_or-drop first xs i false)
 
 -- a block has as many bytes as its plan says
 pub block_long : (s : Scheme) (block : List ℕ) → is_block s block ≡ true → length block ≡ s.block

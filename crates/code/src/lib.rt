@@ -13,5 +13,5 @@ pub use block::{Block, is_block};
 pub use encoder::encode;
 pub use generators::parity;
 pub use interleaver::{load, location};
-pub use mapping::{has_bits, number_for, symbol_at, symbol_for};
+pub use mapping::{has_bits, number_for, symbol_at, symbol_for, symbol_locations};
 pub use run::Run;

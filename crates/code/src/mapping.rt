@@ -1,15 +1,17 @@
 // From locations to symbols, and back to bits.
-ghost use Rattle.std.specs.Prelude.{◌≡◌, ◌+◌, ◌*◌, ◌/◌, ◌^◌, ◌<◌, ◌≤◌, length, IfOk, ◌==◌, nat_lt, position, slice_index};
+ghost use Rattle.std.specs.Prelude.{◌≡◌, ◌+◌, ◌*◌, ◌/◌, ◌^◌, ◌<◌, ◌≤◌, length, IfOk, IfErr, is_ok, ◌==◌, nat_lt, position, slice_index};
 ghost use Rattle.code.specs.Answers.{fetch_answer};
 ghost use Rattle.code.specs.Laws.{Inverts};
 ghost use Rattle.code.specs.Mapping.{phases as phases_of, symbol_of, number_of, symbol_at};
 ghost use Rattle.code.specs.Numbers.{num, read};
 ghost use Rattle.plan.specs.Faults.{chain_number, outcome};
+ghost use Rattle.plan.specs.declared.fault.ChainFault.TheVariants.{Place};
 ghost use Rattle.plan.specs.Plans.{plan_scheme};
 ghost use Rattle.plan.specs.Scheme.{sent_length};
 
 use crate::numbers::append;
 use plan::{ChainFault, Plan};
+use std::ops::Range;
 
 // The symbols of 1, 2 or 3 bits, in the order of the numbers that the bits write.
 fn phases(bits: usize) -> &'static [u8]
@@ -69,21 +71,31 @@ pub fn symbol_at(plan: &Plan, array: &[bool], place: usize) -> Result<u8, ChainF
     if array.len() < plan.sent_length() {
         return Err(ChainFault::TooShort);
     }
+    let locations = symbol_locations(plan, place)?;
+    Ok(symbol_for(plan, as_number(&array[locations])))
+}
+
+// The locations of the symbol at this place, where one is sent there.
+pub fn symbol_locations(plan: &Plan, place: usize) -> Result<Range<usize>, ChainFault>
+    ensures asked { is_ok result ≡ nat_lt place (sent_length (plan_scheme plan.now) / (plan_scheme plan.now).bits) }
+    ensures run { IfOk result (λ r. (r.start ≡ place * (plan_scheme plan.now).bits) × (r.end ≡ r.start + (plan_scheme plan.now).bits) × (r.end ≤ sent_length (plan_scheme plan.now))) }
+    ensures refused { IfErr result (λ fault. fault ≡ Place) }
+{
     if place >= plan.symbols() {
         return Err(ChainFault::Place);
     }
-    Ok(symbol_for(plan, group(plan, array, place)))
-}
-
-// The number that the bits of a symbol's locations write.
-fn group(plan: &Plan, array: &[bool], place: usize) -> u8
-    requires { (sent_length (plan_scheme plan.now) ≤ length array.now) × (place < sent_length (plan_scheme plan.now) / (plan_scheme plan.now).bits) }
-    ensures { result ≡ num (read array.now) (plan_scheme plan.now).bits (place * (plan_scheme plan.now).bits) }
-{
     let bits = plan.parts().symbol_bits;
     let first = place * bits;
+    Ok(first..first + bits)
+}
+
+// The number that these bits write, the first highest.
+fn as_number(bits: &[bool]) -> u8
+    requires { length bits.now ≤ 8 }
+    ensures { result ≡ num (read bits.now) (length bits.now) 0 }
+{
     let mut number = 0;
-    for bit in &array[first..first + bits] {
+    for bit in bits {
         number = append(number, *bit);
     }
     number as u8

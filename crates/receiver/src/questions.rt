@@ -1,15 +1,12 @@
 // What the receiver's calls ask. A question that is answered no is the fault that the call answers.
-ghost use Rattle.std.specs.Prelude.{◌≡◌, ◌+◌, ◌*◌, ◌≤◌, length, nat_lt, IfOk};
+ghost use Rattle.std.specs.Prelude.{◌≡◌, length};
 ghost use Rattle.plan.specs.Plans.{plan_scheme};
-ghost use Rattle.plan.specs.Scheme.{sent_length};
-ghost use Rattle.plan.specs.declared.fault.ChainFault.TheVariants.{TooShort, Place, Index, Location};
+ghost use Rattle.plan.specs.declared.fault.ChainFault.TheVariants.{TooShort, Index, Location};
 ghost use Rattle.receiver.specs.Calls.{lent_enough, index_fits, note_fits, Asks};
-ghost use Rattle.sender.specs.Transmission.{symbols};
 
 use code::has_bits;
 use plan::{ChainFault, Plan};
 use sender::needed_width;
-use std::ops::Range;
 
 // Asks that a lent memory has a value for each location.
 pub(crate) fn check_memory(plan: &Plan, memory: &[i16]) -> Result<(), ChainFault>
@@ -42,17 +39,4 @@ pub(crate) fn check_note(plan: &Plan, location: usize, value: i16) -> Result<(),
     } else {
         Err(ChainFault::Location)
     }
-}
-
-// The locations of the symbol at this place, where one is sent there.
-pub(crate) fn locations(plan: &Plan, place: usize) -> Result<Range<usize>, ChainFault>
-    ensures asked { Asks (nat_lt place (symbols (plan_scheme plan.now))) Place result }
-    ensures run { IfOk result (λ r. (r.start ≡ place * (plan_scheme plan.now).bits) × (r.end ≡ r.start + (plan_scheme plan.now).bits) × (r.end ≤ sent_length (plan_scheme plan.now))) }
-{
-    if place >= plan.symbols() {
-        return Err(ChainFault::Place);
-    }
-    let bits = plan.parts().symbol_bits;
-    let first = place * bits;
-    Ok(first..first + bits)
 }

@@ -9,7 +9,7 @@ ghost use Rattle.receiver.specs.Values.{after_making, after_hear, after_note, af
 use crate::questions::*;
 use crate::receiver::Receiver;
 use crate::values::set_bits;
-use code::number_for;
+use code::{number_for, symbol_locations};
 use plan::{ChainFault, Plan};
 use scrambler::Scrambler;
 use sender::{fits, unscramble};
@@ -60,7 +60,7 @@ impl<S: Scrambler + Drop> Receiver<S> {
         ensures kept { view_of S.meaning self.new ≡ view_of S.meaning self.old }
     {
         check_memory(&self.plan, memory)?;
-        let locations = locations(&self.plan, place)?;
+        let locations = symbol_locations(&self.plan, place)?;
         memory[locations].fill(0);
         Ok(())
     }
@@ -78,7 +78,7 @@ impl<S: Scrambler + Drop> Receiver<S> {
         ensures kept { view_of S.meaning self.new ≡ view_of S.meaning self.old }
     {
         check_memory(&self.plan, memory)?;
-        let locations = locations(&self.plan, place)?;
+        let locations = symbol_locations(&self.plan, place)?;
         check_index(&self.plan, index, weight)?;
         let number = self.number_heard(place, index).ok_or(ChainFault::Mapping)?;
         set_bits(&mut memory[locations], number, weight);
