@@ -1,10 +1,12 @@
 -- A block's bits, and the windows that slide over them.
 -- Assumes nothing.
-use Rattle.std.proofs.Common.{◌≡◌, ℕ, zero, suc, ◌+◌, ◌-◌, ◌*◌, ◌%◌, ◌^◌, ◌<◌, ◌≤◌, Bool, true, false, eqb, ltb, List, [], ◌∷◌, length, get_or, take, drop, sym, refl, ap, ◌∙◌, add-zero, zero-add, mod-eq_of_lt, mul_left_comm, add-one, arith, pow_mono}
+use Rattle.std.proofs.Common.{◌≡◌, ℕ, zero, suc, ◌+◌, ◌-◌, ◌*◌, ◌%◌, ◌^◌, ◌<◌, ◌≤◌, Bool, true, false, eqb, ltb, List, [], ◌∷◌, length, map, get_or, take, drop, sym, refl, ap, ◌∙◌, add-zero, zero-add, mod-eq_of_lt, mul_left_comm, add-one, add-mul, mul_comm, mul_assoc, arith, pow_mono}
 use native.Mathlib.Nat.{pow-succ', add-mod_right}
 use Rattle.std.proofs.lemmas.Nat.{mod_low}
 use Rattle.std.proofs.lemmas.List.{get_or-take, get_or-drop}
+use Rattle.std.proofs.lemmas.List.FromFn.{length-map-range_with_len, get_or-map-range_with_len}
 use Rattle.std.proofs.lemmas.Bool.{and_parts, ltb-true, eqb-true}
+use Rattle.std.specs.List.{fold, range_with_len}
 use Rattle.plan.specs.Questions.{all_below}
 use Rattle.plan.specs.Scheme.{Scheme}
 use Rattle.code.specs.Coding.{is_block}
@@ -59,6 +61,43 @@ num_same f g (suc n) t u h = λ i. 2 * num_same f g n t u (λ j lt. h j (omega a
 pub num_run : (xs : List Bool) (first n : ℕ) → num (read (take n (drop first xs))) n 0 ≡ num (read xs) n first
 num_run xs first n =
     num_same (read (take n (drop first xs))) (read xs) n 0 first (λ i h. ap (read (take n (drop first xs))) (zero-add i) ∙ get_or-take n (drop first xs) i false h ∙ get_or-drop first xs i false)
+
+-- one bit more at the lowest place, as 16 bits hold it
+abbrev pub appended : ℕ → Bool → ℕ
+appended n b = 2 * n % 65536 + digit b
+
+pub appended_small : (n k : ℕ) (b : Bool) → n < 2 ^ k → k < 16 → (appended n b ≡ 2 * n + digit b) × (appended n b < 2 ^ (k + 1))
+appended_small n k b h low =
+    let twice : 2 ^ (k + 1) ≡ 2 * 2 ^ k = ap (λ m. 2 ^ m) (add-one k) ∙ pow-succ' 2 k in
+    let few : k ≤ 15 = omega arith in
+    let fits : 2 ^ k ≤ 2 ^ 15 = pow_mono few in
+    let same : 2 * n % 65536 ≡ 2 * n = mod-eq_of_lt (omega arith) in
+    (ap (λ m. m + digit b) same, omega (arith, digit_le b))
+
+-- appended one after the other, bits write their number below what was there
+appended_all : (xs : List Bool) (n k : ℕ) → n < 2 ^ k → k + length xs ≤ 16 → fold appended n xs ≡ n * 2 ^ length xs + num (read xs) (length xs) 0
+appended_all [] n k h fits = omega arith
+appended_all (x ∷ xs) n k h fits =
+    let one = appended_small n k x h (omega arith) in
+    let m = length xs in
+    let rest : num (read (x ∷ xs)) m 1 ≡ num (read xs) m 0 = num_same (read (x ∷ xs)) (read xs) m 1 0 (λ i lt. let next : 1 + i ≡ suc (0 + i) = omega arith in ap (read (x ∷ xs)) next) in
+    let high : (2 * n + digit x) * 2 ^ m ≡ n * 2 ^ suc m + digit x * 2 ^ m =
+    add-mul (2 * n) (digit x) (2 ^ m) ∙ ap (λ y. y + digit x * 2 ^ m) (ap (λ y. y * 2 ^ m) (mul_comm 2 n) ∙ mul_assoc n 2 (2 ^ m) ∙ ap (λ y. n * y) (sym (pow-succ' 2 m))) in
+    appended_all xs (appended n x) (k + 1) one.1 (omega arith)
+    ∙ ap (λ y. y * 2 ^ m + num (read xs) m 0) one.0
+    ∙ omega (arith, high, rest, num_high (read (x ∷ xs)) m 0)
+
+-- bits that are appended one after the other write their number
+pub appended_num : (xs : List Bool) → length xs ≤ 16 → fold appended 0 xs ≡ num (read xs) (length xs) 0
+appended_num xs few = appended_all xs 0 0 (omega arith) (omega (arith, few)) ∙ omega arith
+
+-- and so do the bits of consecutive places
+pub appended_range : (f : ℕ → Bool) (n t : ℕ) → n ≤ 16 → fold appended 0 (map f (range_with_len t n)) ≡ num f n t
+appended_range f n t few =
+    let bits = map f (range_with_len t n) in
+    let long = length-map-range_with_len f t n in
+    appended_num bits (omega (arith, long, few)) ∙ ap (λ m. num (read bits) m 0) long
+    ∙ num_same (read bits) f n 0 t (λ i lt. ap (read bits) (zero-add i) ∙ get_or-map-range_with_len f t n i (t + i) false lt refl)
 
 -- a block has as many bytes as its plan says
 pub block_long : (s : Scheme) (block : List ℕ) → is_block s block ≡ true → length block ≡ s.block

@@ -94,9 +94,5 @@ fn as_number(bits: &[bool]) -> u8
     requires { length bits.now ≤ 8 }
     ensures { result ≡ num (read bits.now) (length bits.now) 0 }
 {
-    let mut number = 0;
-    for bit in bits {
-        number = append(number, *bit);
-    }
-    number as u8
+    bits.iter().copied().fold(0, append) as u8
 }

@@ -65,11 +65,7 @@ impl<'a> Block<'a> {
         requires { (first < (block_scheme self.now).block) × (count ≤ 9) }
         ensures { result ≡ num (around (block_scheme self.now) (block_bits self.now)) count first }
     {
-        let mut number = 0;
-        for i in first..first + count {
-            number = append(number, self.bit(i));
-        }
-        number
+        (first..first + count).map(|i| self.bit(i)).fold(0, append)
     }
 
     // The bit at an index that may pass the block's end once.

@@ -1,14 +1,17 @@
-use Rattle.std.proofs.Common.{◌≤◌, arith}
-use Rattle.code.specs.Numbers.{read}
-use Rattle.code.proofs.Blocks.{num_small}
+use Rattle.std.proofs.Common.{◌≡◌, length, ◌∙◌, arith, rules}
+use Rattle.std.specs.List.{fold}
+use Rattle.code.specs.Numbers.{num, read}
+use Rattle.code.proofs.Blocks.{appended, appended_num, num_small}
 use Rattle.code.proofs.mapping.as_number.Goals as goal
+use Rattle.code.proofs.mapping.as_number.Goals.{After-fold}
 
-pub append-number-requires : goal.append-number-requires
-append-number-requires c =
-    let few : c.loop-bit.bit-index ≤ 8 = omega arith in
-    omega (arith, num_small (read c.args.bits.now) c.loop-bit.bit-index 0 few)
+written : (c : After-fold) → c.fold.result ≡ num (read c.args.bits.now) (length c.args.bits.now) 0
+written c =
+    let folded : c.fold.result ≡ fold appended 0 c.args.bits.now = search rules in
+    folded ∙ appended_num c.args.bits.now (omega (arith, c.requires))
 
 pub overflow_cast-result : goal.overflow_cast-result
-overflow_cast-result c =
-    let few : c.loop-bit.bit-index ≤ 8 = omega arith in
-    record { fits = omega (arith, num_small (read c.args.bits.now) c.loop-bit.bit-index 0 few) }
+overflow_cast-result c = record { fits = omega (arith, written c, num_small (read c.args.bits.now) (length c.args.bits.now) 0 c.requires) }
+
+pub returns : goal.returns
+returns c = written c

@@ -2,16 +2,10 @@ use Rattle.std.proofs.Common.{◌≡◌, ◌+◌, ◌-◌, ◌*◌, ◌%◌, ◌
 use Rattle.plan.proofs.Facts.{facts}
 use Rattle.code.specs.Blocks.{block_scheme, block_bits}
 use Rattle.code.specs.Coding.{around, mother}
-use Rattle.code.proofs.Blocks.{num_small}
+use Rattle.code.proofs.Blocks.{appended_small, num_small}
 use Rattle.code.proofs.Filled.{Filled, filled_all}
 use Rattle.code.proofs.Pairs.{filled_pair, mother_first, mother_second, pair_is, state_next, window_is}
 use Rattle.code.proofs.block.Block.write_pairs.Goals as goal
-
-pub append-window-requires : goal.append-window-requires
-append-window-requires c =
-    let s = block_scheme c.args.self.now in
-    let few : s.constraint - 1 ≤ 8 = omega (arith, (facts s c.args.self.now.plan.now.accepted).constraint_high) in
-    omega (arith, num_small (around s (block_bits c.args.self.now)) (s.constraint - 1) c.loop-t.t few)
 
 pub loop-t-preserved : goal.loop-t-preserved
 loop-t-preserved c =
@@ -26,7 +20,10 @@ loop-t-preserved c =
     let low : 1 * 2 ^ memory % 65536 - 1 ≡ 2 ^ (s.constraint - 1) - 1 =
     omega (arith, mod-eq_of_lt fits, ap (λ n. 2 ^ (n - 1)) k) in
     let bit = c.bit.ensures ∙ ap (λ n. around s u (t + (n - 1))) k in
-    let x = window_is s known u t c.loop-t.state c.append-window.result c.bit.result c.loop-t.invariant.0 bit c.append-window.ensures in
+    let low_state : s.constraint - 1 ≤ 8 = omega (arith, known.constraint_high) in
+    let small : c.loop-t.state < 2 ^ 8 = omega (arith, c.loop-t.invariant.0, num_small (around s u) (s.constraint - 1) t low_state) in
+    let whole = c.append-window.ensures ∙ (appended_small c.loop-t.state 8 c.bit.result small (omega arith)).0 in
+    let x = window_is s known u t c.loop-t.state c.append-window.result c.bit.result c.loop-t.invariant.0 bit whole in
     let p = pair_is s known u t c.append-window.result c.parity-first.result x c.parity-first.ensures in (
       state_next s known u t c.append-window.result _ x low,
       filled_pair (mother s u) t c.args.word.now c.loop-t.word c.parity-first.result.0 c.parity-first.result.1 c.loop-t.invariant.1
