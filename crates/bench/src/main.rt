@@ -6,7 +6,8 @@ use session::{CommandRoom, Session};
 use std::io;
 use std::io::{BufReader, Bytes, Read};
 
-// Reads the next line, without its line feed. False where nothing follows the last line feed.
+// Reads the next line, without its line feed. False where nothing follows the last line feed: the
+// line's memory is used again, so a flag says whether there is one.
 fn read_line<R: Read + Drop>(input: &mut Bytes<R>, line: &mut Line) -> io::Result<bool> {
     line.clear();
     for byte in input {
@@ -18,7 +19,7 @@ fn read_line<R: Read + Drop>(input: &mut Bytes<R>, line: &mut Line) -> io::Resul
     Ok(!line.is_empty())
 }
 
-// Answers the line that has come in.
+// Answers the line that has come in. Where there is no room it is refused as a session would: one public function for both would be longer.
 fn answer(rt: &HostRuntime, session: &mut Session, line: &Line, number: u16) -> io::Result<()> {
     let answer = match CommandRoom::new(rt.alloc()) {
         Ok(room) => session.answer(rt.alloc(), line, number, room),

@@ -12,6 +12,7 @@ pub struct Heard {
 #[derive(Clone, Copy, Debug, PartialEq, Eq)]
 pub struct PhasesOnly;
 
+// By hand, as the faults of a plan: the crate needs no other but the library.
 impl fmt::Display for PhasesOnly {
     fn fmt<W: fmt::Write>(&self, f: &mut fmt::Formatter<W>) -> fmt::Result {
         f.write_str("the simulator has the eight phases only: waveforms 1 to 7 and 13")

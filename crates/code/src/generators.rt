@@ -14,7 +14,8 @@ pub fn parity(plan: &Plan, window: u16) -> (bool, bool)
     (is_odd(window, first), is_odd(window, second))
 }
 
-// The two generators of a code of this constraint length: a one at each bit that is added.
+// The two generators of a code of this constraint length: a one at each bit that is added. The length is a number that is
+// counted with: an enum would be turned back wherever the bits of a window or of a state are meant.
 fn generators(constraint: usize) -> (u16, u16)
     ensures { result ≡ (if constraint == 7 then (109, 79) else (285, 431)) }
 {

@@ -8,9 +8,9 @@ pub struct Choice {
     pub constraint: usize,
 }
 
-impl Choice {
-    // The row that is run where none is named: 136 bits in, 1,088 out.
-    pub(crate) fn usual() -> Choice {
+// The row that is run where none is named: 136 bits in, 1,088 out.
+impl Default for Choice {
+    fn default() -> Choice {
         Choice {
             row: Row {
                 bandwidth: 24,
@@ -20,7 +20,9 @@ impl Choice {
             constraint: 7,
         }
     }
+}
 
+impl Choice {
     // The row with the most bits in a block.
     pub(crate) fn longest() -> Choice {
         Choice {
@@ -68,11 +70,11 @@ pub struct Run {
     pub svg: bool,
 }
 
-impl Run {
-    // A run of a few seconds.
-    pub(crate) fn usual() -> Run {
+// A run of a few seconds.
+impl Default for Run {
+    fn default() -> Run {
         Run {
-            choice: Choice::usual(),
+            choice: Choice::default(),
             from: -10,
             to: -4,
             blocks: 6,

@@ -7,7 +7,7 @@ use errors::Count;
 use std::alloc::Global;
 use std::num::nearest_u64_to_f64;
 
-#[derive(Clone, Copy)]
+#[derive(Clone, Copy, Default)]
 pub struct Dot {
     pub decibels: i8,
     pub count: Count,
@@ -16,14 +16,6 @@ pub struct Dot {
 }
 
 impl Dot {
-    fn none(decibels: i8) -> Dot {
-        Dot {
-            decibels,
-            count: Count::none(),
-            score: 0,
-        }
-    }
-
     fn add(&mut self, trial: &Trial) {
         self.count
             .add(trial.sent.as_slice(), trial.shown.as_slice());
@@ -56,7 +48,10 @@ pub(crate) fn dots_of(rt: &HostRuntime, run: Run) -> Result<Vec<Dot>, Trouble> {
 // Each ratio begins with the same seed, so that all send the same first block.
 fn dot_at(heap: Global, run: Run, decibels: i8) -> Result<Dot, Trouble> {
     let mut air = Air::new(run.seed, decibels);
-    let mut dot = Dot::none(decibels);
+    let mut dot = Dot {
+        decibels,
+        ..Dot::default()
+    };
     for _ in 0..run.blocks {
         dot.add(&run_trial(heap, run.choice, &mut air)?);
     }

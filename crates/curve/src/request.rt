@@ -20,7 +20,7 @@ pub enum Request {
 // The request of these arguments: a word first, or a row and options.
 pub(crate) fn request_of(words: &[String]) -> Result<Request, Slip> {
     let [word, rest @ ..] = words else {
-        return Ok(Request::Curve(Run::usual()));
+        return Ok(Request::Curve(Run::default()));
     };
     match word.as_str() {
         "rows" => Ok(Request::Rows),
@@ -33,7 +33,7 @@ pub(crate) fn request_of(words: &[String]) -> Result<Request, Slip> {
 // The four numbers of a row and its code, or none for the usual row.
 fn choice_of(words: &[String]) -> Result<Choice, Slip> {
     match words {
-        [] => Ok(Choice::usual()),
+        [] => Ok(Choice::default()),
         [bandwidth, waveform, interleaver, constraint] => Ok(Choice {
             row: Row {
                 bandwidth: number(bandwidth.as_str(), "bandwidth")?,
@@ -66,7 +66,7 @@ fn numbers_in_front(words: &[String]) -> usize
 
 fn run_of(words: &[String]) -> Result<Run, Slip> {
     let (row, options) = words.split_at(numbers_in_front(words));
-    let mut run = Run::usual();
+    let mut run = Run::default();
     run.choice = choice_of(row)?;
     for word in options {
         set_option(&mut run, word.as_str())?;

@@ -4,6 +4,7 @@ use crate::counting::Dot;
 use std::io;
 
 // The ratio of two rates that stand one step apart: twenty steps are a power of ten.
+// The same number as a decibel's of the simulator, of another thing.
 const STEP: f64 = 0.8912509381337456;
 
 // Five powers of ten are drawn; a lower rate stands on the last line.
@@ -20,7 +21,7 @@ fn steps_below(rate: f64) -> usize {
         .count()
 }
 
-// The heights of the picture's lines, from its top.
+// The heights of the picture's lines, from its top. Not one function with the place of a column: the numbers of the two scales would stand at each call.
 fn height(steps: usize) -> usize {
     steps.saturating_mul(4).saturating_add(40)
 }

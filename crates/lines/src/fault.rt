@@ -26,6 +26,7 @@ impl From<ChainFault> for LineFault {
     }
 }
 
+// Two impls by hand: a derive's `From` has no contract, and what `?` answers is part of what is proved.
 impl From<AllocError> for LineFault {
     ghost from_gives = { λ _ r. r ≡ Chain OutOfMemory };
 

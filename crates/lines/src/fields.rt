@@ -10,7 +10,7 @@ use crate::fault::LineFault;
 use plan::Parts;
 use std::alloc::Global;
 
-// The number that two bytes write.
+// The number that two bytes write. Beside `signed`, since no trait has `from_be_bytes` for both types.
 fn two(high: u8, low: u8) -> u16
     ensures { big_endian 2 result ≡ high ∷ low ∷ [] }
 {

@@ -33,6 +33,7 @@ pub(crate) fn read_hex(heap: Global, text: &[u8]) -> Result<Vec<u8>, LineFault>
 {
     let mut bytes = Vec::with_capacity(heap, text.len() / 2)?;
     let mut rest = text;
+    // by a slice pattern: what is left over at the end is an odd digit
     while let [high, low, more @ ..] = rest {
         let Some(byte) = byte_value(*high, *low) else {
             return Err(LineFault::Form);

@@ -11,7 +11,8 @@ use std::alloc::Global;
 // The most characters that a line may have.
 const LONGEST: usize = 2080;
 
-// The command of this kind with these bytes as its fields.
+// The command of this kind with these bytes as its fields. The kind is a line's first character, taken by a match on
+// characters: a form that the project prescribes.
 fn read_command(heap: Global, kind: u8, bytes: Vec<u8>) -> Result<Command, LineFault>
     requires { Bytes bytes.items }
     ensures { FieldReading kind bytes.items result }

@@ -38,7 +38,7 @@ fn octet(bits: &[u8]) -> u8
     number
 }
 
-// A score in eight bytes.
+// A score in eight bytes: an answer is defined by its bytes, and so are its digits.
 fn score_bytes(score: u64) -> [u8; 8]
     ensures { result ≡ big_endian 8 score }
 {

@@ -44,6 +44,7 @@ impl From<PlanFault> for ChainFault {
     }
 }
 
+// Two impls by hand: a derive's `From` has no contract, and what `?` answers is part of what is proved.
 impl From<AllocError> for ChainFault {
     ghost from_gives = { λ _ r. r ≡ OutOfMemory };
 
@@ -110,6 +111,7 @@ impl fmt::Display for PlanFault {
     }
 }
 
+// By a match, as above.
 impl fmt::Display for ChainFault {
     fn fmt<W: fmt::Write>(&self, f: &mut fmt::Formatter<W>) -> fmt::Result {
         match self {

@@ -17,6 +17,7 @@ use scrambler::Scrambler;
 use trellis::Column;
 
 // Half of the memory for scores goes to each column. Split in place: no proof closes for a function that answers two columns.
+// The memories are parameters as in `carry_out`.
 pub(crate) fn look_lent<'a, S: Scrambler + Drop, K: Kind>(
     receiver: &'a Receiver<S>,
     kind: &'a K,

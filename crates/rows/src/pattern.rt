@@ -73,7 +73,7 @@ impl Pattern {
         }
     }
 
-    // The pattern of a rate for constraint length 7, else for 9.
+    // The pattern of a rate for constraint length 7, else for 9. The length is a number, as the parts of a plan have it.
     pub(crate) fn of(rate: Rate, constraint: usize) -> Pattern
         ensures { puncture_of result ≡ puncture rate constraint }
     {

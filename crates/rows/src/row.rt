@@ -11,7 +11,7 @@ pub struct Row {
     pub bandwidth: usize,
     // 1 to 13
     pub waveform: usize,
-    // 0 ultra short, 1 short, 2 medium, 3 long
+    // 0 ultra short, 1 short, 2 medium, 3 long; a number, since any may be asked for
     pub interleaver: usize,
 }
 

@@ -43,7 +43,7 @@ fn print_plan(rt: &HostRuntime, row: Row, constraint: usize) -> io::Result<()> {
     }
 }
 
-// The period, and then the list.
+// The period, and then the list: one line's loop, too little to share.
 fn print_list(rt: &HostRuntime, plan: &Plan) -> io::Result<()> {
     let period = plan.parts().period;
     print!(rt; " {period},")?;

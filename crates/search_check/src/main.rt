@@ -11,7 +11,8 @@ use score::{CountFirst, Tally, Total, Worst};
 use std::alloc::Global;
 use std::io;
 
-// Nine bits in three runs of a send list of six entries, one of them named twice: eighteen bits are sent.
+// Nine bits in three runs of a send list of six entries, one of them named twice: eighteen bits are sent, and a
+// coded bit may have two values, which the plan of `samples` has not.
 fn small_plan(heap: Global, constraint: usize) -> Result<Plan, ChainFault> {
     let send_list = vec![in heap; 0, 1, 2, 5, 4, 2]?;
     let parts = Parts {

@@ -5,7 +5,7 @@ use native.Mathlib.Nat.{add-mod_left, div-eq_of_lt}
 use mir.Val.{bool_byte}
 use Rattle.std.proofs.lemmas.Nat.{shr-shr}
 use Rattle.code.specs.Numbers.{digit, num, bit_of}
-use Rattle.code.proofs.Blocks.{digit_le, num_high}
+use Rattle.code.proofs.Blocks.{digit_le, num_high, num_same}
 use Rattle.trellis.specs.Steps.{around}
 use Rattle.trellis.specs.Survivors.{before}
 
@@ -23,14 +23,6 @@ digit_of : (r : ℕ) → r < 2 → digit (eqb r 1) ≡ r
 digit_of zero l = refl
 digit_of (suc zero) l = refl
 digit_of (suc (suc r)) l = absurd (omega arith)
-
--- two runs of bits that agree write one number
-pub num_same : (f g : ℕ → Bool) (n t s : ℕ) → ((i : ℕ) → i < n → f (t + i) ≡ g (s + i)) → num f n t ≡ num g n s
-num_same f g zero t s h = refl
-num_same f g (suc n) t s h =
-    let e = num_same f g n t s (λ i l. h i (omega arith)) in
-    let d = ap digit (h n (omega arith)) in
-    omega arith
 
 -- the state before a step, from the state after it
 pub num_before : (f : ℕ → Bool) (m t : ℕ) → before m (f t) (num f m (suc t)) ≡ num f m t

@@ -4,13 +4,13 @@ use Rattle.std.proofs.Common.{◌≡◌, ℕ, zero, suc, ◌+◌, ◌-◌, ◌^�
 use Rattle.std.proofs.lemmas.Bool.{cases_eq, cases_Bool, cases_lt, cond-true, cond-false, cond_both, both_ways, lt-ltb, le-ltb}
 use Rattle.std.proofs.lemmas.Nat.{pow_pos}
 use Rattle.code.specs.Numbers.{num, bit_of}
-use Rattle.code.proofs.Blocks.{num_below}
+use Rattle.code.proofs.Blocks.{num_below, num_same}
 use Rattle.code.proofs.Windows.{bit_num}
 use Rattle.trellis.specs.Steps.{Steps, Ordered, around, path_score, block_score}
 use Rattle.trellis.specs.Survivors.{prefix, survivor}
 use Rattle.trellis.specs.Choice.{final, traced, winner}
 use Rattle.trellis.specs.Best.{PickedIsBest}
-use Rattle.trellis.proofs.Bits.{num_same, num_bits, num_around}
+use Rattle.trellis.proofs.Bits.{num_bits, num_around}
 use Rattle.trellis.proofs.Survival.{Lets, reflexive, other_way, survivor_no_worse, traced_score, traced_forced}
 
 -- what is forced at a bit, and past the forced ones

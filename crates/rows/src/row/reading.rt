@@ -20,7 +20,7 @@ fn band(bandwidth: usize) -> Option<usize>
     BANDWIDTHS.iter().position(|b| *b == bandwidth)
 }
 
-// The bits of a symbol for the waveforms 1 to 13.
+// The bits of a symbol for the waveforms 1 to 13, at every bandwidth: a list of its own.
 static SYMBOL_BITS: [usize; 13] = [1, 1, 1, 1, 1, 2, 3, 4, 5, 6, 6, 8, 2];
 
 // By index: a test could only fail where the table has no setting, and it has been asked for one before.

@@ -10,6 +10,7 @@ use code::Run;
 use plan::Plan;
 
 impl BitValues {
+    // No values. Not `Default`: an array's calls its element's 32 times, and this is made twice for each step.
     fn none() -> BitValues
         ensures { (held result ≡ []) × (result.count ≡ 0) }
     {
