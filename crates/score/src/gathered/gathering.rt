@@ -10,7 +10,7 @@ use code::Run;
 use plan::Plan;
 
 impl BitValues {
-    // No values. Not `Default`: an array's calls its element's 32 times, and this is made twice for each step.
+    // No values. Default cannot be derived for a struct with a ghost field.
     fn none() -> BitValues
         ensures { (held result ≡ []) × (result.count ≡ 0) }
     {
