@@ -1,3 +1,4 @@
+pub mod Accepted
 pub mod Windows
 pub mod Filled
 pub mod Blocks

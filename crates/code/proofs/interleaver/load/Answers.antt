@@ -2,9 +2,9 @@ use Rattle.std.proofs.Common.{◌≡◌, ◌+◌, ◌*◌, ◌/◌, ◌≤◌, f
 use Rattle.std.proofs.lemmas.List.{length-replicate}
 use Rattle.plan.specs.Plans.{plan_scheme}
 use Rattle.plan.specs.Scheme.{sent_length}
-use Rattle.plan.proofs.Facts.{facts}
 use Rattle.code.specs.Numbers.{read}
 use Rattle.code.specs.Sending.{interleaved, loads}
+use Rattle.code.proofs.Accepted.{facts_of}
 use Rattle.code.proofs.Loading.{loads_front, loads_on}
 use Rattle.code.proofs.interleaver.load.Goals as goal
 
@@ -19,7 +19,7 @@ loop-number-preserved c =
     c.load.ensures
     ∙ ap (λ l. loads s w l done m) c.loop-number.invariant
     ∙ ap (λ n. loads s w (loads s w start 0 done) n m) (sym (zero-add done))
-    ∙ loads_on s (facts s c.args.plan.now.accepted) w start 0 done m
+    ∙ loads_on s (facts_of c.args.plan.now) w start 0 done m
     ∙ ap (loads s w start 0) next
 
 pub returns-clause-after : goal.returns-clause-after
@@ -38,4 +38,4 @@ returns-clause-after c =
     ap (λ l. l ++ drop n array) zeros ∙ ap (λ m. replicate m false ++ drop m array) c.sent_length.ensures in
     c.loop-number.invariant
     ∙ (λ i. loads s w (cleared i) 0 (all i * length s.entries))
-    ∙ loads_front s (facts s c.args.plan.now.accepted) w (replicate size false) (drop size array) 0 size (length-replicate size false)
+    ∙ loads_front s (facts_of c.args.plan.now) w (replicate size false) (drop size array) 0 size (length-replicate size false)

@@ -1,7 +1,6 @@
-use Rattle.plan.specs.Plans.{plan_scheme}
-use Rattle.plan.proofs.Facts.{facts}
+use Rattle.code.proofs.Accepted.{facts_of}
 use Rattle.code.proofs.Loading.{permutes}
 use Rattle.code.proofs.interleaver.location.Goals as goal
 
 pub returns-clause-permutes : goal.returns-clause-permutes
-returns-clause-permutes c = let s = plan_scheme c.args.plan.now in permutes s (facts s c.args.plan.now.accepted)
+returns-clause-permutes c = permutes _ (facts_of c.args.plan.now)

@@ -1,9 +1,9 @@
 use Rattle.std.proofs.Common.{◌≡◌, ℕ, Bool, true, false, refl, ◌^◌, ◌<◌, ◌≤◌, cond, ltb, Some, None, sym, ap, ◌∙◌, arith}
 use Rattle.std.specs.Bool.{then_some}
 use Rattle.plan.specs.Plans.{plan_scheme}
-use Rattle.plan.proofs.Facts.{facts}
 use Rattle.code.specs.Laws.{Inverts}
 use Rattle.code.specs.Mapping.{phases, number_of}
+use Rattle.code.proofs.Accepted.{facts_of}
 use Rattle.code.proofs.Maps.{number_placed, number_high, inverts}
 use Rattle.code.proofs.mapping.number_for.Goals as goal
 use Rattle.code.proofs.mapping.number_for.Goals.{After-parts, After-place_in}
@@ -13,7 +13,7 @@ chosen true y = refl
 chosen false y = refl
 
 undone : (c : After-parts) → Inverts (plan_scheme c.args.plan.now).bits
-undone c = let s = plan_scheme c.args.plan.now in inverts s.bits (facts s c.args.plan.now.accepted).bits_low
+undone c = inverts _ (facts_of c.args.plan.now).bits_low
 
 placed : (c : After-place_in) → c.place_in.result ≡ number_of (plan_scheme c.args.plan.now).bits c.args.symbol
 placed c =

@@ -1,8 +1,8 @@
 use Rattle.std.proofs.Common.{◌≡◌, subst, rules}
 use Rattle.plan.specs.Plans.{plan_scheme}
-use Rattle.plan.proofs.Facts.{facts}
 use Rattle.code.specs.Blocks.{block_scheme, block_bits}
 use Rattle.code.specs.Numbers.{bits_of}
+use Rattle.code.proofs.Accepted.{facts_of}
 use Rattle.score.specs.Blocks.{value_at, block_score}
 use Rattle.score.proofs.Turns.{takes_each, agreed_is, contradicted_is}
 use Rattle.score.proofs.block.score_of.Goals as goal
@@ -12,7 +12,7 @@ returns g c =
     let s = plan_scheme c.args.plan.now in
     let k = g.K.Kind.scale c.args.kind.now in
     let l = g.met.K.Kind.lawful c.args.kind.now in
-    let f = facts s c.args.plan.now.accepted in
+    let f = facts_of c.args.plan.now in
     let values = value_at c.args.memory.now in
     let u = bits_of c.args.block.now in
     let x = c.score_steps.result in

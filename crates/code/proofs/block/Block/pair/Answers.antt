@@ -1,9 +1,9 @@
 use Rattle.std.proofs.Common.{◌≡◌, Some, ap, ◌∙◌, arith}
 use Rattle.std.proofs.lemmas.Bool.{lt-ltb}
-use Rattle.plan.proofs.Facts.{facts}
 use Rattle.code.specs.Blocks.{block_scheme, block_bits}
 use Rattle.code.specs.Coding.{around}
 use Rattle.code.specs.Numbers.{num}
+use Rattle.code.proofs.Accepted.{facts_of}
 use Rattle.code.proofs.Pairs.{pair_is}
 use Rattle.code.proofs.block.Block.pair.Goals as goal
 
@@ -14,4 +14,4 @@ returns c =
     let t = c.args.t in
     let within = lt-ltb t s.block (omega arith) in
     let window : c.number-window.result ≡ num (around s u) s.constraint t = c.number-window.ensures ∙ ap (λ p. num (around s u) p.constraint t) c.parts.ensures in
-    rw within (ap Some (pair_is s (facts s c.args.self.now.plan.now.accepted) u t c.number-window.result c.parity.result window c.parity.ensures))
+    rw within (ap Some (pair_is s (facts_of c.args.self.now.plan.now) u t c.number-window.result c.parity.result window c.parity.ensures))

@@ -1,7 +1,7 @@
 use Rattle.std.proofs.Common.{◌≡◌, ◌+◌, ◌-◌, ◌*◌, ◌%◌, ◌^◌, ◌<◌, ◌≤◌, sym, ap, ◌∙◌, subst, mod-eq_of_lt, arith, pow_mono}
-use Rattle.plan.proofs.Facts.{facts}
 use Rattle.code.specs.Blocks.{block_scheme, block_bits}
 use Rattle.code.specs.Coding.{around, mother}
+use Rattle.code.proofs.Accepted.{facts_of}
 use Rattle.code.proofs.Blocks.{appended_small, num_small}
 use Rattle.code.proofs.Filled.{Filled, filled_all}
 use Rattle.code.proofs.Pairs.{filled_pair, mother_first, mother_second, pair_is, state_next, window_is}
@@ -11,7 +11,7 @@ pub loop-t-preserved : goal.loop-t-preserved
 loop-t-preserved c =
     let s = block_scheme c.args.self.now in
     let u = block_bits c.args.self.now in
-    let known = facts s c.args.self.now.plan.now.accepted in
+    let known = facts_of c.args.self.now.plan.now in
     let t = c.loop-t.t in
     let k = ap (λ p. p.constraint) c.parts.ensures in
     let memory = c.parts.result.now.constraint - 1 in
@@ -20,8 +20,7 @@ loop-t-preserved c =
     let low : 1 * 2 ^ memory % 65536 - 1 ≡ 2 ^ (s.constraint - 1) - 1 =
     omega (arith, mod-eq_of_lt fits, ap (λ n. 2 ^ (n - 1)) k) in
     let bit = c.bit.ensures ∙ ap (λ n. around s u (t + (n - 1))) k in
-    let low_state : s.constraint - 1 ≤ 8 = omega (arith, known.constraint_high) in
-    let small : c.loop-t.state < 2 ^ 8 = omega (arith, c.loop-t.invariant.0, num_small (around s u) (s.constraint - 1) t low_state) in
+    let small : c.loop-t.state < 2 ^ 8 = omega (arith, c.loop-t.invariant.0, num_small (around s u) (s.constraint - 1) t (omega (arith, known.constraint_high))) in
     let whole = c.append-window.ensures ∙ (appended_small c.loop-t.state 8 c.bit.result small (omega arith)).0 in
     let x = window_is s known u t c.loop-t.state c.append-window.result c.bit.result c.loop-t.invariant.0 bit whole in
     let p = pair_is s known u t c.append-window.result c.parity-first.result x c.parity-first.ensures in (

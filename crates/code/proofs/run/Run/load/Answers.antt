@@ -1,8 +1,8 @@
 use Rattle.std.proofs.Common.{◌≡◌, ◌+◌, ◌*◌, ◌<◌, false, length, get_or, vec_items, sym, ap, ◌∙◌, arith}
 use Rattle.plan.specs.Plans.{plan_scheme}
-use Rattle.plan.proofs.Facts.{facts}
 use Rattle.code.specs.Numbers.{read}
 use Rattle.code.specs.Sending.{location}
+use Rattle.code.proofs.Accepted.{facts_of}
 use Rattle.code.proofs.Loading.{loads_more, source_of}
 use Rattle.code.proofs.run.Run.load.Goals as goal
 use Rattle.code.proofs.run.Run.load.Goals.{In-loop-i}
@@ -21,7 +21,7 @@ entry c = ap (λ l. get_or l c.loop-i.i 0) (listed c)
 pub loop-i-preserved : goal.loop-i-preserved
 loop-i-preserved c =
     let s = plan_scheme c.args.self.now.plan.now in
-    let known = facts s c.args.self.now.plan.now.accepted in
+    let known = facts_of c.args.self.now.plan.now in
     let here = (goal.at.loop-i-preserved c).In-loop-i in
     let word = c.args.word.now in
     let n = c.args.self.now.number * length s.entries in

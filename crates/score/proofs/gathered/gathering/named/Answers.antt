@@ -3,8 +3,8 @@ use Rattle.std.proofs.lemmas.Bool.{lt-ltb}
 use Rattle.std.proofs.lemmas.Int.{to_z-of_z}
 use Rattle.plan.specs.Plans.{plan_scheme}
 use Rattle.plan.specs.declared.parts.Parts.{Parts}
-use Rattle.plan.proofs.Facts.{facts}
 use Rattle.code.specs.Sending.{location}
+use Rattle.code.proofs.Accepted.{facts_of}
 use Rattle.score.specs.Blocks.{value_at}
 use Rattle.score.specs.Gathered.{held}
 use Rattle.score.specs.declared.gathered.BitValues.{BitValues}
@@ -23,7 +23,7 @@ loop-i-init c =
 pub push-requires : goal.push-requires
 push-requires c =
     let s = plan_scheme c.args.run.now.plan.now in
-    let f = facts s c.args.run.now.plan.now.accepted in
+    let f = facts_of c.args.run.now.plan.now in
     let e : length c.as_slice-list.result.now ≡ length s.entries = ap length c.loop-i.invariant.0 in
     omega arith
 
