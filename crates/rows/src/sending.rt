@@ -1,17 +1,14 @@
 // The send list of a pattern.
-ghost use Rattle.std.specs.Prelude.{◌≡◌, ◌*◌, ◌/◌, ◌<◌, true, ◌++◌, is_ok, IfOk, IfErr};
-ghost use Rattle.plan.specs.declared.fault.ChainFault.TheVariants.{OutOfMemory};
+ghost use Rattle.std.specs.Prelude.{◌≡◌, ◌*◌, ◌/◌, ◌<◌, true, ◌++◌, is_ok, IfOk};
 ghost use Rattle.rows.specs.Masks.{puncture_of};
 ghost use Rattle.rows.specs.Patterns.{if_sent, column_listed, send_list};
 
 use crate::pattern::Pattern;
-use plan::ChainFault;
-use std::alloc::Global;
+use std::alloc::{AllocError, Global};
 
 // The entry is listed where the mask has a 1 for it.
-fn list_if_sent(list: &mut Vec<u8>, digit: u8, entry: u8) -> Result<(), ChainFault>
-    ensures listed { is_ok result ≡ true → list.new.items ≡ list.old.items ++ if_sent digit entry }
-    ensures refused { IfErr result (λ e. e ≡ OutOfMemory) }
+fn list_if_sent(list: &mut Vec<u8>, digit: u8, entry: u8) -> Result<(), AllocError>
+    ensures { is_ok result ≡ true → list.new.items ≡ list.old.items ++ if_sent digit entry }
 {
     if digit == b'1' {
         list.push(entry)?;
@@ -35,10 +32,9 @@ impl Pattern {
         column: usize,
         first: u8,
         second: u8,
-    ) -> Result<(), ChainFault>
+    ) -> Result<(), AllocError>
         requires { column < 12 }
-        ensures listed { is_ok result ≡ true → list.new.items ≡ list.old.items ++ column_listed self.repeats column first second }
-        ensures refused { IfErr result (λ e. e ≡ OutOfMemory) }
+        ensures { is_ok result ≡ true → list.new.items ≡ list.old.items ++ column_listed self.repeats column first second }
     {
         let entry = self.first_entry(column);
         list_if_sent(list, first, entry)?;
@@ -46,9 +42,8 @@ impl Pattern {
     }
 
     // Which bits of a period are sent, in order: column by column of the mask.
-    pub(crate) fn send_list(self, heap: Global) -> Result<Vec<u8>, ChainFault>
-        ensures listed { IfOk result (λ v. v.items ≡ send_list (puncture_of self)) }
-        ensures refused { IfErr result (λ e. e ≡ OutOfMemory) }
+    pub(crate) fn send_list(self, heap: Global) -> Result<Vec<u8>, AllocError>
+        ensures { IfOk result (λ v. v.items ≡ send_list (puncture_of self)) }
     {
         let mut list = Vec::new(heap);
         for (column, (first, second)) in self.first.iter().zip(self.second).enumerate() {
