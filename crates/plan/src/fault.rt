@@ -1,6 +1,7 @@
 // Why a call is refused: a case for each question, in the order in which the questions are asked.
-ghost use Rattle.std.specs.Prelude.{◌≡◌};
+ghost use Rattle.std.specs.Prelude.{◌≡◌, Some};
 ghost use Rattle.plan.specs.Faults.{plan_number, chain_number};
+ghost use Rattle.plan.specs.Sentences.{plan_sentence, chain_sentence};
 ghost use Rattle.plan.specs.declared.fault.ChainFault.TheVariants.{Plan, OutOfMemory};
 
 use std::alloc::{AllocError, AllocFailed};
@@ -93,6 +94,8 @@ impl From<ChainFault> for u8 {
 
 // By a match, as plain as a derive's attributes: the chain needs no crate but the library.
 impl fmt::Display for PlanFault {
+    ghost output = { λ fault. Some (plan_sentence fault) };
+
     fn fmt<W: fmt::Write>(&self, f: &mut fmt::Formatter<W>) -> fmt::Result {
         f.write_str(match self {
             PlanFault::ConstraintLength => "the constraint length is neither 7 nor 9",
@@ -113,6 +116,8 @@ impl fmt::Display for PlanFault {
 
 // By a match, as above.
 impl fmt::Display for ChainFault {
+    ghost output = { λ fault. Some (chain_sentence fault) };
+
     fn fmt<W: fmt::Write>(&self, f: &mut fmt::Formatter<W>) -> fmt::Result {
         match self {
             ChainFault::Plan(fault) => fault.fmt(f),
