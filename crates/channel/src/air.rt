@@ -1,5 +1,6 @@
 // The air between sender and receiver: a slow fade, and noise.
-ghost use Rattle.std.specs.Prelude.{◌≡◌, false, is_ok, IfOk, nat_le};
+ghost use Rattle.std.specs.Prelude.{◌≡◌, true, false, is_ok, IfOk, nat_le};
+ghost use Rattle.channel.specs.Drawing.{state_after};
 ghost use Rattle.channel.specs.Hearing.{Hearable};
 ghost use Rattle.plan.specs.Plans.{plan_scheme};
 
@@ -38,18 +39,23 @@ impl Air {
         }
     }
 
-    // What is heard of a symbol that is sent with this on-air index, where the scrambler has this value.
+    // What is heard of a symbol that is sent with this on-air index, where the scrambler has this value: 36 draws.
     pub fn hear(&mut self, plan: &Plan, value: u8, index: u8) -> Result<Heard, PhasesOnly>
         ensures answer { is_ok result ≡ nat_le (plan_scheme plan.now).bits 3 }
         ensures made { IfOk result (λ h. Hearable (plan_scheme plan.now).bits value h) }
+        ensures after { is_ok result ≡ true → self.new.generator.state ≡ state_after 36 self.old.generator.state }
+        ensures noise { self.new.noise ≡ self.old.noise }
         ensures refused { is_ok result ≡ false → self.new ≡ self.old }
     {
         let candidates = Candidates::of(plan, value)?;
         Ok(candidates.decide(self.carry(point_of(index))))
     }
 
-    // A point as it arrives.
-    fn carry(&mut self, sent: Point) -> Point {
+    // A point as it arrives: three nearly normal numbers, for the walk and for the noise in each direction.
+    fn carry(&mut self, sent: Point) -> Point
+        ensures after { self.new.generator.state ≡ state_after 36 self.old.generator.state }
+        ensures noise { self.new.noise ≡ self.old.noise }
+    {
         let walked = self.amplitude + STEP * self.generator.draw_normal();
         self.amplitude = walked.clamp(LEAST, MOST);
         Point {

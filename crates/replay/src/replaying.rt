@@ -1,5 +1,5 @@
 // A whole list of calls, from the making of a receiver to the look after the last call.
-ghost use Rattle.std.specs.Prelude.{◌≡◌, true, false, ◌≢◌, map, length, take, drop, is_ok, IfOk};
+ghost use Rattle.std.specs.Prelude.{◌≡◌, true, false, ◌⊎◌, ◌≢◌, map, length, take, drop, is_ok, IfOk};
 ghost use Rattle.code.specs.Numbers.{bits_of};
 ghost use Rattle.plan.specs.Faults.{chain_number, outcome};
 ghost use Rattle.plan.specs.Plans.{plan_scheme};
@@ -29,7 +29,8 @@ pub struct Replayed<T> {
 }
 
 // Makes a receiver, carries out every call, and looks with all that it is given. Each call is lent what it says, and at most
-// what there is; the first half of `scores` is one column, the rest is the other. Memory for the answers is asked for first.
+// what there is; the first half of `scores` is one column, the rest is the other. Memory for the answers is asked for first; where
+// there is no call, none is asked for.
 pub fn replay<S: Scrambler + Drop, K: Kind>(
     heap: Global,
     plan: Plan,
@@ -41,7 +42,7 @@ pub fn replay<S: Scrambler + Drop, K: Kind>(
     scores: &mut [K::Score],
     marks: &mut [u8],
 ) -> Result<Replayed<K::Score>, ChainFault>
-    ensures answer { outcome chain_number result ≢ 255 → outcome chain_number result ≡ making_answer (view plan (S.meaning scrambler)) (length memory.old) }
+    ensures answer { (length calls.now ≡ 0) ⊎ (outcome chain_number result ≢ 255) → outcome chain_number result ≡ making_answer (view plan (S.meaning scrambler)) (length memory.old) }
     ensures answers { let v = view plan (S.meaning scrambler) in let w = given memory.old block.old scores.old marks.old in IfOk result (λ x. map (outcome chain_number) x.answers.items ≡ answers v w calls.now) }
     ensures looked { let w = given memory.old block.old scores.old marks.old in IfOk result (λ x. outcome chain_number x.shown ≡ search_answer (plan_scheme plan) w) }
     ensures promise { let v = view plan (S.meaning scrambler) in let w = given memory.old block.old scores.old marks.old in IfOk result (λ x. IfOk x.shown (λ score. Promise (K.Kind.scale kind.now) v w calls.now (bits_of block.new) score)) }

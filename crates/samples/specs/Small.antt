@@ -19,6 +19,6 @@ small_scheme k = record {
 abbrev pub small_answer : ℕ → ℕ
 small_answer k = cond (k == 7 || k == 9) 0 1
 
--- a call answered this number, or that there is no memory left
+-- a call answered this number, or, where it would be accepted, that there is no memory left
 abbrev pub AnsweredOrNoMemory : ℕ → ℕ → Type 0
-AnsweredOrNoMemory number answer = (number ≡ answer) ⊎ (number ≡ 255)
+AnsweredOrNoMemory number answer = (number ≡ answer) ⊎ ((answer ≡ 0) × (number ≡ 255))

@@ -6,7 +6,7 @@ ghost use Rattle.plan.specs.Faults.{chain_number, outcome};
 ghost use Rattle.plan.specs.Plans.{plan_scheme};
 ghost use Rattle.samples.specs.Small.{small_scheme, small_answer, AnsweredOrNoMemory};
 
-use plan::{ChainFault, Parts, Plan};
+use plan::{ChainFault, Parts, Plan, PlanFault, constraint_fits};
 use std::alloc::Global;
 
 // A plan of nine bits that sends twelve, three to a symbol. Its send list is new memory, which may be wanting.
@@ -14,6 +14,9 @@ pub fn small_plan(heap: Global, constraint: usize) -> Result<Plan, ChainFault>
     ensures answer { AnsweredOrNoMemory (outcome chain_number result) (small_answer constraint) }
     ensures made { IfOk result (λ p. plan_scheme p ≡ small_scheme constraint) }
 {
+    if !constraint_fits(constraint) {
+        return Err(ChainFault::Plan(PlanFault::ConstraintLength));
+    }
     let parts = Parts {
         constraint,
         period: 3,
@@ -29,7 +32,6 @@ pub fn small_plan(heap: Global, constraint: usize) -> Result<Plan, ChainFault>
 #[cfg(test)]
 mod tests {
     use super::*;
-    use plan::PlanFault;
     use std::test::Fail;
 
     // Of the constraint lengths from 6 to 10, the standard has 7 and 9.

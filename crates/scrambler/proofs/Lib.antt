@@ -1,3 +1,4 @@
+pub mod Reaching
 pub mod Shifting
 pub mod Polynomial
 pub mod Periods

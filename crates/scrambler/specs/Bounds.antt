@@ -1,19 +1,13 @@
 -- Values are below 2 to the power of the width.
 -- Assumes nothing.
-use Rattle.std.specs.Prelude.{◌≡◌, ℕ, zero, suc, ◌^◌, ◌<◌, ◌≤◌, true, List, [], ◌∷◌, length, Some, None, ◌==◌, slice_index, refl}
-use Rattle.std.proofs.Common.{sym, ap, ◌∙◌, ⊎_elim, zero-add, le_of_suc-le-suc, arith}
+use Rattle.std.specs.Prelude.{◌≡◌, ℕ, zero, suc, ◌^◌, ◌<◌, true, List, [], ◌∷◌, length, slice_index}
+use Rattle.std.proofs.Common.{zero-add, le_of_suc-le-suc, arith}
 use Rattle.std.proofs.lemmas.Nat.{mod_below, pow_pos}
 use Rattle.std.proofs.lemmas.List.FromFn.{length-map-range_with_len, get_or-map-range_with_len}
-use Rattle.std.proofs.lemmas.Bool.{and_parts, or_cases, leb-true, eqb-true, ltb-true, cond_below, cond_above}
+use Rattle.std.proofs.lemmas.Bool.{and_parts, ltb-true}
 use Rattle.plan.specs.Questions.{within, all_below}
-use Rattle.scrambler.specs.Meaning.{value_at}
 use Rattle.scrambler.specs.Questions.{width_fits, table_fits}
 use Rattle.scrambler.specs.Shifts.{drawn, drawn_values}
-
-pub width_high : (w : ℕ) → width_fits w ≡ true → w ≤ 8
-width_high w t =
-    ⊎_elim (λ h. let high = leb-true w 6 (and_parts _ _ h).1 in omega arith) (λ h. let e = eqb-true w 8 h in omega arith)
-    (or_cases (within 3 6 w) (w == 8) t)
 
 pub below_at : (bound : ℕ) (xs : List ℕ) → all_below bound xs ≡ true → (i : ℕ) → i < length xs → slice_index xs i < bound
 below_at bound [] t i h = absurd (omega arith)
@@ -36,14 +30,3 @@ pub drawn_below : (w i : ℕ) → i < length (drawn_values w) → slice_index (d
 drawn_below w i h =
     let near : i < 4096 = rw length_drawn at h in
     rw drawn_at (mod_below _ (2 ^ w) (pow_pos w))
-
--- what a register answers below its reach, and from it on
-pub drawn_value : (w i v : ℕ) → i < 4096 → v ≡ drawn w i → Some v ≡ value_at (record { width = w; values = drawn_values w }) i
-drawn_value w i v h e =
-    let near : i < length (drawn_values w) = rw length_drawn h in
-    ap Some (e ∙ sym (drawn_at w i h)) ∙ cond_below i (length (drawn_values w)) _ _ near
-
-pub drawn_none : (w i : ℕ) → 4096 ≤ i → None ≡ value_at (record { width = w; values = drawn_values w }) i
-drawn_none w i h =
-    let far : length (drawn_values w) ≤ i = rw length_drawn h in
-    cond_above i (length (drawn_values w)) _ _ _ far refl

@@ -1,4 +1,4 @@
-use Rattle.scrambler.specs.Bounds.{width_high}
+use Rattle.scrambler.proofs.Reaching.{width_high}
 use Rattle.scrambler.proofs.Shifting.{low_coded}
 use Rattle.scrambler.proofs.width.Width.low_bits.Goals as goal
 

@@ -1,5 +1,5 @@
 use Rattle.std.proofs.Common.{◌%◌, ◌^◌, refl, ap, ◌∙◌}
-use Rattle.scrambler.specs.Bounds.{drawn_value, drawn_none}
+use Rattle.scrambler.proofs.Reaching.{drawn_value, drawn_none}
 use Rattle.scrambler.proofs.register.drawing.RegisterScrambler.value.Goals as goal
 
 pub returns-then-place-ge-REACH : goal.returns-then-place-ge-REACH
