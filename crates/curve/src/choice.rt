@@ -1,4 +1,7 @@
 // Which chain is run: a row of the standard, and a code.
+ghost use Rattle.std.specs.Prelude.{◌≡◌};
+ghost use Rattle.curve.specs.Usual.{usual_choice, usual_run};
+
 use rows::{Interleaver, Row};
 use std::fmt;
 
@@ -10,6 +13,8 @@ pub struct Choice {
 
 // The row that is run where none is named: 136 bits in, 1,088 out.
 impl Default for Choice {
+    ghost is_default = { λ choice. choice ≡ usual_choice };
+
     fn default() -> Choice {
         Choice {
             row: Row {
@@ -72,6 +77,8 @@ pub struct Run {
 
 // A run of a few seconds.
 impl Default for Run {
+    ghost is_default = { λ run. run ≡ usual_run };
+
     fn default() -> Run {
         Run {
             choice: Choice::default(),
