@@ -1,8 +1,15 @@
 // The bench: reads lines from standard input, and answers each.
 #![tactic(auto)]
 
-use lines::{Answer, Line, LineFault, answer_text};
+ghost use Rattle.std.specs.Prelude.{◌≡◌, ℕ, ◌⊎◌, List};
+ghost use Rattle.lines.specs.Inputs.{kept_of};
+ghost use Rattle.lines.specs.declared.answer.Answer.TheVariants.{Refused};
+ghost use Rattle.session.specs.Said.{Answers};
+ghost use Rattle.session.specs.Sessions.{held};
+
+use lines::{Answer, Line, LineFault, LineRoom, answer_text};
 use session::{CommandRoom, Session};
+use std::alloc::{AllocError, Global};
 use std::io;
 use std::io::{BufReader, Bytes, Read};
 
@@ -19,17 +26,22 @@ fn read_line<R: Read + Drop>(input: &mut Bytes<R>, line: &mut Line) -> io::Resul
     Ok(!line.is_empty())
 }
 
-// Answers the line that has come in. Where there is no room it is refused as a session would: one public function for both would be longer.
-fn answer(rt: &HostRuntime, session: &mut Session, line: &Line, number: u16) -> io::Result<()> {
-    let answer = match CommandRoom::new(rt.alloc()) {
-        Ok(room) => session.answer(rt.alloc(), line, number, room),
+// The room for one line.
+fn rooms(heap: Global) -> Result<(LineRoom, CommandRoom), AllocError> {
+    Ok((LineRoom::new(heap)?, CommandRoom::new(heap)?))
+}
+
+// The answer to the line with this number. Where there is no room for it, it is refused.
+fn answer(heap: Global, session: &mut Session, line: &Line, number: u16) -> Answer
+    ensures { (text : List ℕ) → line.now.kept.items ≡ kept_of text → Answers (held session.old) text number result (held session.new) ⊎ ((result ≡ Refused 255 number) × (held session.new ≡ held session.old)) }
+{
+    match rooms(heap) {
+        Ok((reading, room)) => session.answer(line, number, reading, room),
         Err(fault) => Answer::Refused {
             number: LineFault::from(fault).number(),
             line: number,
         },
-    };
-    let text = answer_text(rt.alloc(), &answer)?;
-    rt.print(text)
+    }
 }
 
 fn main(rt: HostRuntime) -> io::Result<()> {
@@ -41,7 +53,8 @@ fn main(rt: HostRuntime) -> io::Result<()> {
         if !read_line(&mut input, &mut line)? {
             break;
         }
-        answer(&rt, &mut session, &line, number)?;
+        let answer = answer(rt.alloc(), &mut session, &line, number);
+        rt.print(answer_text(rt.alloc(), &answer)?)?;
     }
     Ok(())
 }

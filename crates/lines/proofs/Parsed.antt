@@ -1,6 +1,6 @@
 -- From the first character and the fields to the whole line.
 -- Assumes nothing.
-use Rattle.std.proofs.Common.{◌≡◌, ℕ, ◌≤◌, List, ◌∷◌, length, Ok, Err, Result, ap, inl, inr, ⊎_elim}
+use Rattle.std.proofs.Common.{◌≡◌, ℕ, ◌≤◌, List, ◌∷◌, length, Ok, Err, Result, ap}
 use Rattle.lines.specs.Commands.{kind, fields, packed, Writes}
 use Rattle.lines.specs.Hex.{hex, Bytes}
 use Rattle.lines.specs.Readings.{Refuses, Holds, FieldReading, LineReading}
@@ -10,7 +10,7 @@ use Rattle.lines.proofs.Digits.{hex_same}
 use Rattle.lines.proofs.Fielded.{packed_bytes}
 
 pub refuses_from : (P Q : Type 0) (e : LineFault) → (Q → P) → Refuses P e → Refuses Q e
-refuses_from P Q e f h = ⊎_elim inl (λ p. inr (p.0, λ q. p.1 (f q))) h
+refuses_from P Q e f h = (h.0, λ q. h.1 (f q))
 
 module _ (line rest : List ℕ) (k : ℕ) (parted : line ≡ k ∷ rest) where
   -- what follows the first character of a command's line is digits

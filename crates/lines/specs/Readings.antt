@@ -1,19 +1,18 @@
 -- What reading a text, the fields of a command and a whole line answer.
 -- Assumes nothing.
-use Rattle.std.specs.Prelude.{◌≡◌, ℕ, ◌⊎◌, List, ◌∷◌, ◌++◌, length, Ok, Err, vec_items, Result, Vec}
+use Rattle.std.specs.Prelude.{◌≡◌, ℕ, List, ◌∷◌, ◌++◌, length, Ok, Err, vec_items, Result, Vec}
 use Rattle.std.specs.declared.alloc.Global.{Global}
 use Rattle.plan.specs.Parts.{scheme}
 use Rattle.plan.specs.declared.parts.Parts.{Parts}
-use Rattle.plan.specs.declared.fault.ChainFault.TheVariants.{OutOfMemory}
 use Rattle.lines.specs.Commands.{kind, fields, plan_fields, Fitting, packed, Writes}
 use Rattle.lines.specs.Hex.{hex, Bytes}
 use Rattle.lines.specs.declared.command.Command.{Command}
 use Rattle.lines.specs.declared.fault.LineFault.{LineFault}
-use Rattle.lines.specs.declared.fault.LineFault.TheVariants.{Chain, Form}
+use Rattle.lines.specs.declared.fault.LineFault.TheVariants.{Form}
 
--- refused for want of memory, or for its form where nothing has it
+-- refused for its form, where nothing has it
 abbrev pub Refuses : Type 0 → LineFault → Type 0
-Refuses Formed e = (e ≡ Chain OutOfMemory) ⊎ ((e ≡ Form) × (Formed → ⊥))
+Refuses Formed e = (e ≡ Form) × (Formed → ⊥)
 
 -- the bytes whose digits the text is
 abbrev pub HexReading : List ℕ → Result (Vec ℕ Global) LineFault → Type 0

@@ -1,5 +1,5 @@
 // The fields of each kind of command, taken from the bytes after its first character.
-ghost use Rattle.std.specs.Prelude.{◌≡◌, ◌<◌, [], ◌∷◌, ◌++◌, length};
+ghost use Rattle.std.specs.Prelude.{◌≡◌, ◌<◌, ◌≤◌, [], ◌∷◌, ◌++◌, length, vec_capacity};
 ghost use Rattle.std.specs.Int.{w16};
 ghost use Rattle.std.proofs.Common.{of_z};
 ghost use Rattle.lines.specs.Hex.{big_endian};
@@ -8,7 +8,6 @@ ghost use Rattle.lines.specs.Readings.{FieldReading, PartsReading};
 use crate::command::Command;
 use crate::fault::LineFault;
 use plan::Parts;
-use std::alloc::Global;
 
 // The number that two bytes write. Beside `signed`, since no trait has `from_be_bytes` for both types.
 fn two(high: u8, low: u8) -> u16
@@ -78,15 +77,17 @@ pub(crate) fn read_look(bytes: &[u8]) -> Result<Command, LineFault>
     Ok(Command::Look)
 }
 
-// The parts that the bytes before the send list, the list, and the bytes after it write.
+// The parts that the bytes before the send list, the list, and the bytes after it write; the list in the room of an empty one.
 fn read_parts(
-    heap: Global,
+    room: Vec<u8>,
     constraint: u8,
     period: u8,
     list: &[u8],
     last: &[u8],
 ) -> Result<Parts, LineFault>
-    requires { length list.now < 256 }
+    requires small { length list.now < 256 }
+    requires empty { room.items ≡ [] }
+    requires fits { 255 ≤ vec_capacity room }
     ensures { PartsReading constraint period list.now last.now result }
 {
     let [b2, b1, b0, bits, f1, f0, i2, i1, i0] = last else {
@@ -95,7 +96,8 @@ fn read_parts(
     let block_length = three(*b2, *b1, *b0);
     let frame_length = two(*f1, *f0);
     let increment = three(*i2, *i1, *i0);
-    let send_list = Vec::from_slice(heap, list)?;
+    let mut send_list = room;
+    let _ = send_list.extend_from_slice(list);
     Ok(Parts {
         constraint: usize::from(constraint),
         period: usize::from(period),
@@ -107,7 +109,9 @@ fn read_parts(
     })
 }
 
-pub(crate) fn read_plan(heap: Global, bytes: &[u8]) -> Result<Command, LineFault>
+pub(crate) fn read_plan(room: Vec<u8>, bytes: &[u8]) -> Result<Command, LineFault>
+    requires empty { room.items ≡ [] }
+    requires fits { 255 ≤ vec_capacity room }
     ensures { FieldReading 80 bytes.now result }
 {
     let [constraint, period, entries, rest @ ..] = bytes else {
@@ -118,6 +122,6 @@ pub(crate) fn read_plan(heap: Global, bytes: &[u8]) -> Result<Command, LineFault
         return Err(LineFault::Form);
     }
     let (list, last) = rest.split_at(entries);
-    let parts = read_parts(heap, *constraint, *period, list, last)?;
+    let parts = read_parts(room, *constraint, *period, list, last)?;
     Ok(Command::Plan(parts))
 }

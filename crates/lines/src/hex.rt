@@ -1,10 +1,9 @@
 // Bytes as upper-case hexadecimal text, two digits a byte.
-ghost use Rattle.std.specs.Prelude.{◌≡◌, ℕ, ◌<◌, [], ◌∷◌, Some, MatchOption, ◌≢◌};
+ghost use Rattle.std.specs.Prelude.{◌≡◌, ℕ, ◌*◌, ◌<◌, ◌≤◌, [], ◌∷◌, length, Some, MatchOption, vec_capacity, ◌≢◌};
 ghost use Rattle.lines.specs.Hex.{hex_digit, hex};
 ghost use Rattle.lines.specs.Readings.{HexReading};
 
 use crate::fault::LineFault;
-use std::alloc::Global;
 use std::fmt;
 
 // The number that a digit stands for. `char::to_digit` takes lower-case digits too.
@@ -27,18 +26,20 @@ fn byte_value(high: u8, low: u8) -> Option<u8>
     Some(16 * upper + lower)
 }
 
-// The bytes that a text of digits writes.
-pub(crate) fn read_hex(heap: Global, text: &[u8]) -> Result<Vec<u8>, LineFault>
+// The bytes that a text of digits writes, in the room of an empty list.
+pub(crate) fn read_hex(room: Vec<u8>, text: &[u8]) -> Result<Vec<u8>, LineFault>
+    requires empty { room.items ≡ [] }
+    requires fits { length text.now ≤ 2 * vec_capacity room }
     ensures { HexReading text.now result }
 {
-    let mut bytes = Vec::with_capacity(heap, text.len() / 2)?;
+    let mut bytes = room;
     let mut rest = text;
     // by a slice pattern: what is left over at the end is an odd digit
     while let [high, low, more @ ..] = rest {
         let Some(byte) = byte_value(*high, *low) else {
             return Err(LineFault::Form);
         };
-        bytes.push(byte)?;
+        let _ = bytes.push(byte);
         rest = more;
     }
     if rest.is_empty() {

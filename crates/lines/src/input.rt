@@ -6,6 +6,7 @@ ghost use Rattle.lines.specs.Readings.{LineReading};
 use crate::command::Command;
 use crate::fault::LineFault;
 use crate::reading::parse;
+use crate::room::LineRoom;
 use std::alloc::{AllocError, Global};
 
 // One more byte than a command's line may have.
@@ -53,9 +54,9 @@ impl Line {
     }
 
     // The command whose line has come, read as from the whole line.
-    pub fn command(&self, heap: Global) -> Result<Command, LineFault>
+    pub fn command(&self, room: LineRoom) -> Result<Command, LineFault>
         ensures { (line : List ℕ) → self.now.kept.items ≡ kept_of line → LineReading line result }
     {
-        parse(heap, self.kept.as_slice())
+        parse(room, self.kept.as_slice())
     }
 }

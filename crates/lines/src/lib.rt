@@ -10,6 +10,7 @@ mod hex;
 mod input;
 mod law;
 mod reading;
+mod room;
 mod writing;
 
 pub use accept::accept_plan;
@@ -19,6 +20,7 @@ pub use fault::LineFault;
 pub use input::Line;
 pub use law::one_reading_holds;
 pub use reading::parse;
+pub use room::LineRoom;
 pub use writing::answer_text;
 
 #[cfg(test)]
@@ -28,8 +30,10 @@ mod tests {
 
     #[test]
     fn plan_is_read(rt: HostRuntime) -> Result<(), Fail> {
-        let Ok(Command::Plan(parts)) = parse(rt.alloc(), b"P07030400010205000009030004000005")
-        else {
+        let Ok(Command::Plan(parts)) = parse(
+            LineRoom::new(rt.alloc())?,
+            b"P07030400010205000009030004000005",
+        ) else {
             return Err(Fail::new("the line is no plan's"));
         };
         assert_eq!(rt; parts.send_list.as_slice(), [0, 1, 2, 5].as_slice());

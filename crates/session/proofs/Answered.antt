@@ -3,7 +3,6 @@
 use Rattle.std.proofs.Common.{◌≡◌, ℕ, List, Ok, Err, sym, ap, ◌∙◌, inl, inr, ⊎_elim, arith}
 use Rattle.std.proofs.lemmas.Bool.{eqb-false}
 use Rattle.plan.specs.Faults.{chain_number}
-use Rattle.plan.specs.declared.fault.ChainFault.TheVariants.{OutOfMemory}
 use Rattle.lines.specs.Faults.{line_number}
 use Rattle.lines.specs.declared.answer.Answer.{Answer}
 use Rattle.lines.specs.declared.answer.Answer.TheVariants.{Refused}
@@ -23,9 +22,7 @@ pub said_accepted : (h left : Held) (line : List ℕ) (number : ℕ) (reply : An
 said_accepted h left line number reply carried =
     ⊎_elim
     (λ x. inl (x.0, x.1, record { accepted = λ _. x.3; refused = λ no. absurd (no (sym x.2)) }, x.4))
-    (⊎_elim
     (λ x. absurd (let e = x.1 in let z : ◌≡◌ {A = ℕ} 0 1 = cc in omega arith))
-    (λ x. absurd (let e = x.0 in let z : ◌≡◌ {A = ℕ} 0 1 = cc in omega arith)))
     carried
 
 pub said_refused : (h left : Held) (line : List ℕ) (number : ℕ) (fault : LineFault) (reply : Answer) → reply ≡ Refused (line_number fault) number →
@@ -33,7 +30,5 @@ pub said_refused : (h left : Held) (line : List ℕ) (number : ℕ) (fault : Lin
 said_refused h left line number fault reply is carried =
     ⊎_elim
     (λ x. inl (x.0, x.1, record { accepted = λ zero. absurd (not_zero fault (x.2 ∙ zero)); refused = λ _. is ∙ ap (λ n. Refused n number) x.2 }, x.4))
-    (⊎_elim
-    (λ x. inr (inl (x.0, (let e = x.1 in let same : fault ≡ Form = cc in is ∙ ap (λ f. Refused (line_number f) number) same), x.2)))
-    (λ x. inr (inr ((let e = x.0 in let same : fault ≡ Chain OutOfMemory = cc in is ∙ ap (λ f. Refused (line_number f) number) same), x.1))))
+    (λ x. inr (x.0, (let e = x.1 in let same : fault ≡ Form = cc in is ∙ ap (λ f. Refused (line_number f) number) same), x.2))
     carried

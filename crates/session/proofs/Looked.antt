@@ -1,6 +1,6 @@
 -- What a look of the session shows.
 -- Assumes nothing.
-use Rattle.std.proofs.Common.{◌≡◌, ℕ, ◌*◌, ◌/◌, ◌^◌, ◌≤◌, true, cond, leb, List, length, get_or, take, ℤ, is_ok, IfOk, Ok, Err, Result, refl, ap, ◌∙◌, ⊎_elim, arith}
+use Rattle.std.proofs.Common.{◌≡◌, ℕ, ◌*◌, ◌/◌, ◌^◌, ◌≤◌, true, cond, leb, List, length, get_or, take, ℤ, is_ok, IfOk, Ok, Err, Result, ap, ◌∙◌, ⊎_elim, arith}
 use Rattle.std.proofs.lemmas.Bool.{and_parts, leb-true, le-leb}
 use Rattle.plan.specs.Questions.{plan_answer}
 use Rattle.plan.specs.Scheme.{Scheme, sent_length}

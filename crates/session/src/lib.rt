@@ -10,7 +10,7 @@ pub use session::Session;
 #[cfg(test)]
 mod tests {
     use super::*;
-    use lines::{Line, answer_text};
+    use lines::{Line, LineRoom, answer_text};
     use std::alloc::Global;
     use std::test::Fail;
 
@@ -23,7 +23,12 @@ mod tests {
             for byte in text.bytes() {
                 line.push(byte)?;
             }
-            let answer = session.answer(heap, &line, number, CommandRoom::new(heap)?);
+            let answer = session.answer(
+                &line,
+                number,
+                LineRoom::new(heap)?,
+                CommandRoom::new(heap)?,
+            );
             said.push_str(answer_text(heap, &answer)?.as_str())?;
         }
         Ok(said)

@@ -8,8 +8,7 @@ ghost use Rattle.session.specs.Sessions.{held};
 
 use crate::command_room::CommandRoom;
 use crate::session::Session;
-use lines::{Answer, Line, LineFault};
-use std::alloc::Global;
+use lines::{Answer, Line, LineFault, LineRoom};
 
 // The answer that says why a line is refused.
 fn refusal(fault: LineFault, number: u16) -> Answer
@@ -22,11 +21,17 @@ fn refusal(fault: LineFault, number: u16) -> Answer
 }
 
 impl Session {
-    // The answer to the line with this number.
-    pub fn answer(&mut self, heap: Global, line: &Line, number: u16, room: CommandRoom) -> Answer
+    // The answer to the line with this number, which is read in the first room and carried out in the second.
+    pub fn answer(
+        &mut self,
+        line: &Line,
+        number: u16,
+        reading: LineRoom,
+        room: CommandRoom,
+    ) -> Answer
         ensures { (text : List ℕ) → line.now.kept.items ≡ kept_of text → Answers (held self.old) text number result (held self.new) }
     {
-        match self.carry_out_line(heap, line, room) {
+        match self.carry_out_line(line, reading, room) {
             Ok(answer) => answer,
             Err(fault) => refusal(fault, number),
         }
@@ -35,13 +40,13 @@ impl Session {
     // Reads the command whose line this is, and carries it out.
     fn carry_out_line(
         &mut self,
-        heap: Global,
         line: &Line,
+        reading: LineRoom,
         room: CommandRoom,
     ) -> Result<Answer, LineFault>
         ensures { (text : List ℕ) → line.now.kept.items ≡ kept_of text → Carries (held self.old) text result (held self.new) }
     {
-        let command = line.command(heap)?;
+        let command = line.command(reading)?;
         self.carry_out(command, room)
     }
 }

@@ -1,4 +1,4 @@
-use Rattle.std.proofs.Common.{Err, refl, ap, ◌∙◌, inl, inr, ⊎_elim}
+use Rattle.std.proofs.Common.{Err, refl, ap, ◌∙◌, inl, inr}
 use Rattle.std.proofs.lemmas.Result.{err_from_is_err_and}
 use Rattle.session.proofs.session.Session.carry_out_line.Goals as goal
 
@@ -10,8 +10,5 @@ returns c line kept =
 pub returns-in_err-command : goal.returns-in_err-command
 returns-in_err-command c line kept =
     let p = err_from_is_err_and c.from_residual.result c.from_residual.ensures.1 in
-    let e = c.in_err-command.ensures line kept in
-    ⊎_elim
-    (λ no_memory. inr (inr (p.1 ∙ ap Err (p.2 ∙ no_memory), refl)))
-    (λ no_form. inr (inl (λ d w. no_form.1 (d, w), p.1 ∙ ap Err (p.2 ∙ no_form.0), refl)))
-    e
+    let no_form = c.in_err-command.ensures line kept in
+    inr (λ d w. no_form.1 (d, w), p.1 ∙ ap Err (p.2 ∙ no_form.0), refl)
