@@ -33,7 +33,7 @@ impl<'p, 'a, 'm, 'c, K: Kind> Workspace<'p, 'a, 'm, 'c, K> {
         ensures pass { self.new.pass ≡ self.old.pass }
         ensures value { let p = self.old.pass.now in result ≡ final (steps_of p) p.trellis.memory p.trellis.size number }
     {
-        self.sweep(number);
+        self.sweep(self.pass.trellis.memory(), number);
         self.before.at(number, self.pass.kind.start())
     }
 }

@@ -17,7 +17,7 @@ impl<'p, 'a, 'm, 'c, K: Kind> Workspace<'p, 'a, 'm, 'c, K> {
     {
         let pass = self.pass;
         let (start, score) = self.winner();
-        self.sweep(start);
+        self.sweep(pass.trellis.memory(), start);
         pass.trellis.trace_back(self.marks, start, block);
         score
     }

@@ -9,11 +9,12 @@ use crate::step::Step;
 use score::{Kind, gather};
 
 impl<'p, 'a, 'm, 'c, K: Kind> Workspace<'p, 'a, 'm, 'c, K> {
-    // The survivors of the pass that starts with a number, in the column before a step, and all marks.
-    pub(crate) fn sweep(&mut self, number: usize)
+    // The survivors of the pass that starts with so many bits of a number, in the column before a step, and all marks.
+    pub(crate) fn sweep(&mut self, held: usize, number: usize)
+        requires { held ≤ self.old.pass.now.trellis.memory }
         ensures pass { self.new.pass ≡ self.old.pass }
-        ensures scores { let p = self.old.pass.now in let m = p.trellis.memory in (s : ℕ) → s < 2 ^ m → slice_index_or self.new.before.now.scores.now s (scale_of p).start ≡ survivor (steps_of p) m (prefix m m number) p.trellis.size s }
-        ensures marks { let p = self.old.pass.now in let m = p.trellis.memory in (t s : ℕ) → t < p.trellis.size → s < 2 ^ m → marked m self.new.marks.now t s ≡ mark (steps_of p) m (prefix m m number) t s }
+        ensures scores { let p = self.old.pass.now in let m = p.trellis.memory in (s : ℕ) → s < 2 ^ m → slice_index_or self.new.before.now.scores.now s (scale_of p).start ≡ survivor (steps_of p) m (prefix m held number) p.trellis.size s }
+        ensures marks { let p = self.old.pass.now in let m = p.trellis.memory in (t s : ℕ) → t < p.trellis.size → s < 2 ^ m → marked m self.new.marks.now t s ≡ mark (steps_of p) m (prefix m held number) t s }
     {
         let pass = self.pass;
         self.before.fill(pass.kind.start());
@@ -21,7 +22,7 @@ impl<'p, 'a, 'm, 'c, K: Kind> Workspace<'p, 'a, 'm, 'c, K> {
             let step = Step {
                 pass,
                 values: gather(pass.plan, pass.values, t),
-                forced: forced_bit(pass.trellis.memory(), number, t),
+                forced: forced_bit(pass.trellis.memory(), held, number, t),
             };
             step.run(self.before, self.after, self.marks, t);
             std::mem::swap(self.before, self.after);
@@ -29,11 +30,11 @@ impl<'p, 'a, 'm, 'c, K: Kind> Workspace<'p, 'a, 'm, 'c, K> {
     }
 }
 
-// The bit that is forced at step t: one of the bits of a number of so many bits.
+// The bit that is forced at step t: one of the first `held` bits of a number of so many bits.
 // Not one function with the receiver's `bit_at`: a public one asks nothing, and would test at every bit that the shift is in range.
-fn forced_bit(bits: usize, number: usize, t: usize) -> Option<bool>
-    requires { bits ≤ 8 }
-    ensures { result ≡ prefix bits bits number t }
+fn forced_bit(bits: usize, held: usize, number: usize, t: usize) -> Option<bool>
+    requires { (bits ≤ 8) × (held ≤ bits) }
+    ensures { result ≡ prefix bits held number t }
 {
-    (t < bits).then(|| (number >> (bits - 1 - t)) % 2 == 1)
+    (t < held).then(|| (number >> (bits - 1 - t)) % 2 == 1)
 }

@@ -13,9 +13,11 @@ returns g c =
     let s = p.trellis in
     let w = c.winner-start.ensures in
     let lead = c.winner-start.result.0 in
-    let marks = subst (λ q. (t i : ℕ) → t < q.now.trellis.size → i < 2 ^ q.now.trellis.memory →
+    let kept = subst (λ q. (t i : ℕ) → t < q.now.trellis.size → i < 2 ^ q.now.trellis.memory →
     marked q.now.trellis.memory c.sweep.new.self.marks.now t i
-    ≡ mark (steps_of q.now) q.now.trellis.memory (prefix q.now.trellis.memory q.now.trellis.memory lead) t i) w.pass c.sweep.ensures.marks in
+    ≡ mark (steps_of q.now) q.now.trellis.memory (prefix q.now.trellis.memory c.memory.result lead) t i) w.pass c.sweep.ensures.marks in
+    let marks = subst (λ h. (t i : ℕ) → t < s.size → i < 2 ^ s.memory →
+    marked s.memory c.sweep.new.self.marks.now t i ≡ mark (steps_of p) s.memory (prefix s.memory h lead) t i) c.memory.ensures kept in
     record {
       block = shown_is k _ _ _ s.memory s.size lead _ _ p.memory_fits p.size_fits w.below w.number marks c.trace_back.ensures.after;
       score = w.score ∙ ap (final (steps_of p) s.memory s.size) w.number;

@@ -19,7 +19,7 @@ loop-t-preserved g c =
     let inside : t < (plan_scheme p.plan.now).block = omega (arith, p.size_fits, c.size-t-end.ensures) in
     let scores = ap (λ col. col.scores.now) c.swap.ensures.x_after in
     let values = c.gather.ensures ∙ cond-true _ _ _ (lt-ltb t (plan_scheme p.plan.now).block inside) in
-    let forced = c.forced_bit.ensures ∙ ap (λ m. prefix m m c.args.number t) c.memory.ensures in
+    let forced = c.forced_bit.ensures ∙ ap (λ m. prefix m c.args.held c.args.number t) c.memory.ensures in
     let r = c.run.ensures in (
       c.loop-t.invariant.0,
       passed_more _ _ _ _ _ t c.loop-t.self.before.now.scores.now _ _ c.loop-t.self.marks.now _ _ _ scores values forced r.scores r.marks r.others c.loop-t.invariant.1,
@@ -31,5 +31,5 @@ returns g c =
     let m = p.trellis.memory in
     let e : c.loop-t.t ≡ p.trellis.size = omega (arith, c.size-t-end.ensures) in
     let d = subst (λ n. Passed (g.K.Kind.scale p.kind.now) (plan_scheme p.plan.now) (value_at p.values.now)
-    m (prefix m m c.args.number) n c.loop-t.self.before.now.scores.now c.loop-t.self.marks.now) e c.loop-t.invariant.1 in
+    m (prefix m c.args.held c.args.number) n c.loop-t.self.before.now.scores.now c.loop-t.self.marks.now) e c.loop-t.invariant.1 in
     record { pass = c.loop-t.invariant.0; scores = d.scored; marks = d.kept }

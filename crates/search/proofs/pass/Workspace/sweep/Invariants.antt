@@ -10,4 +10,4 @@ invariant-loop-t g l =
     let p = l.pass in
     (l.self.pass ≡ l.initial.self.pass)
     × Passed (g.K.Kind.scale p.kind.now) (plan_scheme p.plan.now) (value_at p.values.now)
-    p.trellis.memory (prefix p.trellis.memory p.trellis.memory l.number) l.t l.self.before.now.scores.now l.self.marks.now
+    p.trellis.memory (prefix p.trellis.memory l.held l.number) l.t l.self.before.now.scores.now l.self.marks.now
