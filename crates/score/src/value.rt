@@ -9,13 +9,14 @@ pub(crate) fn is_contradicted(value: i16, bit: bool) -> bool
     if bit { value > 0 } else { value < 0 }
 }
 
-// The value's size where it is contradicted, else 0.
+// The value's size where it is contradicted, else 0: how far the value goes towards the other bit.
 pub(crate) fn weight(value: i16, bit: bool) -> u16
     ensures { result ≡ weight value bit }
 {
-    if is_contradicted(value, bit) {
-        value.unsigned_abs()
+    let other = if bit {
+        i32::from(value)
     } else {
-        0
-    }
+        -i32::from(value)
+    };
+    other.max(0) as u16
 }

@@ -1,6 +1,6 @@
 -- Eight states of a step, the last first: their marks in a byte, their scores in the new column.
 -- Assumes nothing.
-use Rattle.std.proofs.Common.{◌≡◌, ℕ, suc, ◌+◌, ◌-◌, ◌*◌, ◌/◌, ◌%◌, ◌^◌, ◌<◌, ◌≤◌, Bool, eqb, List, length, get_or, set as put, sym, ap, ◌∙◌, subst, ⊎_elim, arith, get_or-set_other, get_or-set_same}
+use Rattle.std.proofs.Common.{◌≡◌, ℕ, suc, ◌+◌, ◌-◌, ◌*◌, ◌/◌, ◌%◌, ◌^◌, ◌<◌, ◌≤◌, Bool, true, false, cond, eqb, List, length, get_or, set as put, sym, refl, ap, ◌∙◌, subst, ⊎_elim, arith, get_or-set_other, get_or-set_same}
 use native.Mathlib.Nat.{pow-le-pow_right}
 use mir.Val.{bool_byte}
 use Rattle.std.proofs.lemmas.List.{length-set}
@@ -59,3 +59,8 @@ module _ {S : Type 0} (mark : ℕ → Bool) (score : ℕ → S) (start : S) (bef
 
   pub done_scores : (left byte : ℕ) (scores : List S) → left ≡ 0 → Done left byte scores → (i : ℕ) → i < 8 → get_or scores (8 * group + i) start ≡ score (8 * group + i)
   done_scores left byte scores a d i l = d.set i (omega arith) l
+
+-- the score of the way that survives
+pub chosen_way : {S : Type 0} (way : Bool → S) (mark : Bool) → cond mark (way true) (way false) ≡ way mark
+chosen_way way true = refl
+chosen_way way false = refl

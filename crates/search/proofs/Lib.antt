@@ -1,3 +1,4 @@
+pub mod Parities
 pub mod Eights
 pub mod Rows
 pub mod Passes
