@@ -28,11 +28,11 @@ prefix_lets m held x w same i =
 
 module _ {S : Type 0} (steps : Steps S) (m size : ℕ) where
   -- below the size, a block round and round is the block
-  around_below : (u : ℕ → Bool) (i : ℕ) → i < size → around size u i ≡ u i
+  pub around_below : (u : ℕ → Bool) (i : ℕ) → i < size → around size u i ≡ u i
   around_below u i l = ap u (mod-eq_of_lt l)
 
   -- a start number comes round to itself
-  comes_round : (x : ℕ) → m ≤ size → x < 2 ^ m → num (around size (traced steps m size x)) m size ≡ x
+  pub comes_round : (x : ℕ) → m ≤ size → x < 2 ^ m → num (around size (traced steps m size x)) m size ≡ x
   comes_round x h l =
       let u = traced steps m size x in
       num_around u m size

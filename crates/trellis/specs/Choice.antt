@@ -9,6 +9,11 @@ unfoldable pub back : ℕ → (ℕ → ℕ → Bool) → ℕ → ℕ → ℕ →
 back m marks zero s i = false
 back m marks (suc t) s i = cond (i == t) (marks t s) (back m marks t (before m (marks t s) s) i)
 
+-- the state at time 0, on the path that marks give into state s at time t
+unfoldable pub origin : ℕ → (ℕ → ℕ → Bool) → ℕ → ℕ → ℕ
+origin m marks zero s = s
+origin m marks (suc t) s = origin m marks t (before m (marks t s) s)
+
 module _ {S : Type 0} (steps : Steps S) (m size : ℕ) where
   -- the score that survives from start number x round to the same number
   abbrev pub final : ℕ → S

@@ -1,7 +1,7 @@
 // The block that marks give, traced back from a state.
 ghost use Rattle.std.specs.Prelude.{◌≡◌, ℕ, ◌<◌, ◌≤◌, length, slice_index};
 ghost use Rattle.code.specs.Numbers.{digit};
-ghost use Rattle.trellis.specs.Choice.{back};
+ghost use Rattle.trellis.specs.Choice.{back, origin};
 ghost use Rattle.trellis.specs.Marks.{marked, overwritten};
 ghost use Rattle.trellis.specs.Survivors.{before};
 
@@ -23,6 +23,17 @@ impl Trellis {
             put_at(block, t, u8::from(bit));
             state = self.before(bit, state);
         }
+    }
+
+    // The state before the first step, on the path that the marks give into the state `end`.
+    pub fn origin(self, marks: &[u8], end: usize) -> usize
+        ensures { result ≡ origin self.memory (marked self.memory marks.now) self.size end }
+    {
+        let mut from = end;
+        for t in (0..self.size).rev() {
+            from = self.before(self.is_marked(marks, t, from), from);
+        }
+        from
     }
 
     // The state before the step into a state that shifts this bit out.
