@@ -45,7 +45,7 @@ module _ {S : Type 0} (k : Scale S) (s : Scheme) (values : ℕ → ℤ) where
   score_same u v h same = ap (λ w. path_score (steps k s values) (memory s) w s.block) (λ j i. same (i % s.block) (mod-lt i h) j)
 
   -- the steps keep the order of the scores
-  ordered : Lawful k → Ordered (steps k s values)
+  pub ordered : Lawful k → Ordered (steps k s values)
   ordered l = record {
     total = l.total;
     transitive = l.transitive;

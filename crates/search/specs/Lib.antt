@@ -1,3 +1,4 @@
 pub mod Searching
 pub mod Stepping
 pub mod Looking
+pub mod Choosing

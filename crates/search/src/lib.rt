@@ -2,6 +2,7 @@
 #![tactic(auto)]
 
 mod looking;
+mod numbers;
 mod pass;
 mod step;
 

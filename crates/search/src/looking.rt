@@ -43,6 +43,7 @@ pub fn search<'a, 'c, K: Kind>(
         before: old,
         after: new,
         marks,
+        trips: 0,
     };
     Ok(workspace.pick(block))
 }

@@ -4,7 +4,9 @@ ghost use Rattle.plan.specs.Plans.{plan_scheme};
 ghost use Rattle.search.specs.Searching.{memory};
 
 mod choosing;
+mod closing;
 mod picking;
+mod ranking;
 mod sweeping;
 
 use plan::Plan;
@@ -29,6 +31,8 @@ pub(crate) struct Workspace<'p, 'a, 'm, 'c, K: Kind> {
     pub before: &'m mut Column<'c, K::Score>,
     pub after: &'m mut Column<'c, K::Score>,
     pub marks: &'m mut [u8],
+    // how many passes there were
+    pub trips: usize,
     ghost before_fits: { 2 ^ pass.now.trellis.memory ≤ length before.now.scores.now },
     ghost after_fits: { 2 ^ pass.now.trellis.memory ≤ length after.now.scores.now },
     ghost marks_fit: { pass.now.trellis.size * 2 ^ pass.now.trellis.memory / 8 ≤ length marks.now },

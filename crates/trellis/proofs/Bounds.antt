@@ -8,10 +8,10 @@ use Rattle.code.proofs.Blocks.{num_same}
 use Rattle.trellis.specs.Steps.{Steps, Ordered, around, path_score, block_score}
 use Rattle.trellis.specs.Survivors.{before, prefix, survivor, mark}
 use Rattle.trellis.specs.Choice.{back, origin, final, traced, winner}
-use Rattle.trellis.specs.Bounds.{shares, ahead, Bounded}
+use Rattle.trellis.specs.Bounds.{shares, ahead, Leads}
 use Rattle.trellis.proofs.Bits.{num_bits, num_before, num_around}
 use Rattle.trellis.proofs.Survival.{reflexive, other_way, back_last, back_more, survivor_no_worse, traced_score, traced_forced}
-use Rattle.trellis.proofs.Start.{prefix_holds, prefix_lets, around_below, comes_round, final_score, final_no_worse, Leads, winner_is}
+use Rattle.trellis.proofs.Start.{prefix_holds, prefix_lets, around_below, comes_round, final_score, final_no_worse, Leads as Leading, winner_is}
 
 -- a path that agrees with a trace starts where the trace does
 origin_num : (m : ℕ) (marks : ℕ → ℕ → Bool) (w : ℕ → Bool) (t s : ℕ) → num w m t ≡ s → ((i : ℕ) → i < t → w i ≡ back m marks t s i) → num w m 0 ≡ origin m marks t s
@@ -118,16 +118,18 @@ module _ {S : Type 0} (steps : Steps S) (o : Ordered steps) where
       inl (omega arith))
       inr (cases_Bool (steps.no_worse c a)))
 
-  -- where every start number's bound is behind the leader, the leader wins
-  pub bounded_wins : (m size lead : ℕ) (score : S) (bounds : ℕ → S) → Bounded steps m size lead score bounds →
-      ((x : ℕ) → x < 2 ^ m → before_it score lead (bounds x) x ≡ true) → lead ≡ winner steps m size (2 ^ m)
-  bounded_wins m size lead score bounds h first =
+  -- what comes before a score comes before each that is no better
+  pub ahead_of_worse : (a b c : S) (i j : ℕ) → before_it a i b j ≡ true → steps.no_worse b c ≡ true → before_it a i c j ≡ true
+  ahead_of_worse a b c i j p q =
+      let x = says a b i j p in
+      holds a c i j (o.transitive _ _ _ x.0 q)
+      (⊎_elim inl (λ no. inr (⊎_elim (λ yes. absurd (both_ways _ no (o.transitive _ _ _ q yes))) (λ f. f) (cases_Bool (steps.no_worse c a)))) x.1)
+
+  -- where the leader comes before every number, it wins
+  pub leader_wins : (m size lead : ℕ) (score : S) (left : ℕ → Bool) → Leads steps m size lead score left →
+      ((x : ℕ) → x < 2 ^ m → before_it score lead (final steps m size x) x ≡ true) → lead ≡ winner steps m size (2 ^ m)
+  leader_wins m size lead score left h first =
       let n = 2 ^ m - 1 in
       let e : suc n ≡ 2 ^ m = omega (arith, pow_pos m) in
-      let leads : Leads steps o m size (2 ^ m) lead score = record {
-        low = h.low;
-        own = h.own;
-        ahead = λ x l. let a = says score (bounds x) lead x (first x l) in
-            (o.transitive _ _ _ a.0 (h.bound x l), ⊎_elim inl (λ no. inr (⊎_elim (λ yes. absurd (both_ways _ no (o.transitive _ _ _ (h.bound x l) yes))) (λ f. f) (cases_Bool (steps.no_worse (final steps m size x) score)))) a.1);
-      } in
-      winner_is steps o m size n lead score (subst (λ k. Leads steps o m size k lead score) (sym e) leads) ∙ ap (winner steps m size) e
+      let leads : Leading steps o m size (2 ^ m) lead score = record { low = h.low; own = h.own; ahead = λ x l. says score (final steps m size x) lead x (first x l) } in
+      winner_is steps o m size n lead score (subst (λ k. Leading steps o m size k lead score) (sym e) leads) ∙ ap (winner steps m size) e

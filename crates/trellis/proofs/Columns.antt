@@ -3,7 +3,7 @@
 use Rattle.std.proofs.Common.{◌≡◌, ℕ, zero, suc, ◌^◌, ◌<◌, Bool, true, false, cond, not, eqb, Option, unwrap_or, refl, ap, ◌∙◌, arith}
 use Rattle.trellis.specs.Steps.{Steps}
 use Rattle.trellis.specs.Survivors.{window, before, way, next_mark, next}
-use Rattle.trellis.specs.Choice.{back}
+use Rattle.trellis.specs.Choice.{back, origin}
 
 -- the state before a step is one of those that there are
 pub before_below : (m s : ℕ) (b : Bool) → s < 2 ^ m → before m b s < 2 ^ m
@@ -30,3 +30,11 @@ back_same m one other (suc n) s i l same =
     let e = same n s (omega arith) l in
     ap (λ b. cond (eqb i n) b (back m one n (before m b s) i)) e
     ∙ ap (cond (eqb i n) (other n s)) (back_same m one other n (before m (other n s) s) i (before_below m s (other n s) l) (λ t s k. same t s (omega arith)))
+
+-- and lead back to the same state
+pub origin_same : (m : ℕ) (one other : ℕ → ℕ → Bool) (n s : ℕ) → s < 2 ^ m → ((t s : ℕ) → t < n → s < 2 ^ m → one t s ≡ other t s) → origin m one n s ≡ origin m other n s
+unfolding origin
+origin_same m one other zero s l same = refl
+origin_same m one other (suc n) s l same =
+    ap (λ b. origin m one n (before m b s)) (same n s (omega arith) l)
+    ∙ origin_same m one other n (before m (other n s) s) (before_below m s (other n s) l) (λ t s k. same t s (omega arith))

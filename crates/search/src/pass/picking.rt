@@ -16,9 +16,9 @@ impl<'p, 'a, 'm, 'c, K: Kind> Workspace<'p, 'a, 'm, 'c, K> {
         ensures score { let p = self.old.pass.now in let st = steps_of p in let m = p.trellis.memory in result ≡ final st m p.trellis.size (winner st m p.trellis.size (2 ^ m)) }
     {
         let pass = self.pass;
-        let (start, score) = self.winner();
+        let start = self.winner();
         self.sweep(pass.trellis.memory(), start);
         pass.trellis.trace_back(self.marks, start, block);
-        score
+        self.survivor(start)
     }
 }

@@ -1,6 +1,7 @@
 // What the shape of a trellis tells.
 ghost use Rattle.std.specs.Prelude.{◌≡◌, ◌-◌, ◌*◌, ◌/◌, ◌^◌};
 ghost use Rattle.plan.specs.Plans.{plan_scheme};
+ghost use Rattle.trellis.specs.Bounds.{shares};
 
 use crate::trellis::Trellis;
 use plan::Plan;
@@ -45,5 +46,13 @@ impl Trellis {
         ensures { result ≡ self.size * 2 ^ self.memory / 8 }
     {
         self.row * self.size
+    }
+
+    // Whether two states have the same first bits, so many of them.
+    pub fn shares(self, held: usize, one: usize, other: usize) -> bool
+        ensures { result ≡ shares self.memory held one other }
+    {
+        let free = self.memory.saturating_sub(held);
+        one >> free == other >> free
     }
 }

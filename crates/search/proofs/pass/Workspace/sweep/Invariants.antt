@@ -9,5 +9,6 @@ abbrev pub invariant-loop-t : goal.invariant-loop-t
 invariant-loop-t g l =
     let p = l.pass in
     (l.self.pass ≡ l.initial.self.pass)
+    × (l.self.trips ≡ l.initial.self.trips)
     × Passed (g.K.Kind.scale p.kind.now) (plan_scheme p.plan.now) (value_at p.values.now)
     p.trellis.memory (prefix p.trellis.memory l.held l.number) l.t l.self.before.now.scores.now l.self.marks.now
