@@ -6,4 +6,4 @@ mod numbers;
 mod pass;
 mod step;
 
-pub use looking::search;
+pub use looking::{search, search_with_trips};

@@ -1,4 +1,4 @@
-use Rattle.std.proofs.Common.{◌≡◌, ℕ, ◌^◌, ◌<◌, ap, ◌∙◌, subst}
+use Rattle.std.proofs.Common.{◌≡◌, ℕ, ◌^◌, ◌<◌, ap, ◌∙◌, subst, arith}
 use Rattle.trellis.specs.Choice.{final}
 use Rattle.trellis.specs.Marks.{marked}
 use Rattle.trellis.specs.Survivors.{prefix, survivor, mark}
@@ -24,4 +24,5 @@ returns g c =
       block = shown_is (scale_of p.now) _ _ _ t.memory t.size lead _ _ p.now.memory_fits p.now.size_fits w.below w.number swept.kept c.trace_back.ensures.after;
       score = c.survivor.ensures ∙ ap (λ q. column (scale_of q.now) before lead) (b.pass ∙ w.pass) ∙ swept.scored lead w.below
           ∙ ap (final (steps_of p.now) t.memory t.size) w.number;
+      trips = omega (arith, w.trips, b.trips);
     }

@@ -1,4 +1,4 @@
-use Rattle.std.proofs.Common.{◌^◌, sym, ap, ◌∙◌}
+use Rattle.std.proofs.Common.{◌^◌, sym, ap, ◌∙◌, arith}
 use Rattle.std.proofs.lemmas.Bool.{cond-true, true≢false}
 use Rattle.code.specs.Numbers.{bits_of}
 use Rattle.plan.specs.Plans.{plan_scheme}
@@ -8,7 +8,7 @@ use Rattle.trellis.specs.Choice.{final, winner}
 use Rattle.search.specs.Searching.{memory, steps}
 use Rattle.search.proofs.Finding.{found, shown_bits}
 use Rattle.search.proofs.Rooms.{room}
-use Rattle.search.proofs.looking.search.Goals as goal
+use Rattle.search.proofs.looking.search_with_trips.Goals as goal
 
 pub invariant_of-workspace : goal.invariant_of-workspace
 invariant_of-workspace g c =
@@ -28,11 +28,12 @@ returns g c =
     let r = room s c.of.result.memory c.of.result.size _ o.memory o.size long in
     record {
       answer = sym (cond-true _ _ _ long);
-      found = found k s values (g.met.K.Kind.lawful c.args.kind.now) (facts s p.accepted) _ c.pick.result
-          (λ i l. ap (λ bytes. bits_of bytes i) c.pick.ensures.block ∙ shown_bits k s values c.args.block.now i l r.block)
-          (c.pick.ensures.score ∙ ap (λ m. final st m c.of.result.size (winner st m c.of.result.size (2 ^ m))) o.memory
+      found = found k s values (g.met.K.Kind.lawful c.args.kind.now) (facts s p.accepted) _ c.pick-score.result
+          (λ i l. ap (λ bytes. bits_of bytes i) c.pick-score.ensures.block ∙ shown_bits k s values c.args.block.now i l r.block)
+          (c.pick-score.ensures.score ∙ ap (λ m. final st m c.of.result.size (winner st m c.of.result.size (2 ^ m))) o.memory
           ∙ ap (λ n. final st (memory s) n (winner st (memory s) n (2 ^ memory s))) o.size);
-      block = c.pick.ensures.block;
+      trips = omega (arith, c.pick-score.ensures.trips, ap (λ m. 2 ^ m) o.memory);
+      block = c.pick-score.ensures.block;
       old = λ e. absurd (true≢false e);
       new = λ e. absurd (true≢false e);
       marks = λ e. absurd (true≢false e);
