@@ -1,4 +1,11 @@
 // The search with memories of its own.
+ghost use Rattle.std.specs.Prelude.{◌≡◌, IfOk};
+ghost use Rattle.code.specs.Numbers.{bits_of};
+ghost use Rattle.plan.specs.Plans.{plan_scheme};
+ghost use Rattle.score.specs.Blocks.{value_at};
+ghost use Rattle.search.specs.Looking.{Found};
+ghost use Rattle.speed.specs.Measuring.{judge_of, Best};
+
 use crate::judge::{Judge, Score};
 use plan::{ChainFault, Plan};
 use score::{CountFirst, Kind, Tally, Total, Worst};
@@ -42,7 +49,10 @@ impl Decoder {
         plan: &Plan,
         judge: Judge,
         values: &[i16],
-    ) -> Result<Look, ChainFault> {
+    ) -> Result<Look, ChainFault>
+        ensures judge { IfOk result (λ look. judge_of look.score ≡ judge) }
+        ensures best { IfOk result (λ look. Best (plan_scheme plan.now) (value_at values.now) (bits_of self.new.block.items) look.score) }
+    {
         let block = self.block.as_mut_slice();
         let marks = self.marks.as_mut_slice();
         match judge {
@@ -82,7 +92,9 @@ fn look_in<K: Kind>(
     block: &mut [u8],
     scores: &mut [K::Score],
     marks: &mut [u8],
-) -> Result<(K::Score, usize), ChainFault> {
+) -> Result<(K::Score, usize), ChainFault>
+    ensures { IfOk result (λ r. Found (K.Kind.scale kind.now) (plan_scheme plan.now) (value_at values.now) (bits_of block.new) r.0) }
+{
     let (first, second) = scores.split_at_mut(scores.len() / 2);
     let mut old = Column { scores: first };
     let mut new = Column { scores: second };

@@ -9,6 +9,8 @@ pub enum Judge {
     CountFirst,
 }
 
+pub const JUDGES: [Judge; 3] = [Judge::Total, Judge::Worst, Judge::CountFirst];
+
 impl fmt::Display for Judge {
     fn fmt<W: fmt::Write>(&self, f: &mut fmt::Formatter<W>) -> fmt::Result {
         f.pad(match self {

@@ -1,4 +1,8 @@
 // The plans that are measured.
+ghost use Rattle.std.specs.Prelude.{◌≡◌, IfOk};
+ghost use Rattle.plan.specs.Plans.{plan_scheme};
+ghost use Rattle.speed.specs.Measuring.{half_rate};
+
 use plan::{ChainFault, Parts, Plan};
 use std::alloc::Global;
 
@@ -8,7 +12,9 @@ pub(crate) fn half_rate_plan(
     heap: Global,
     constraint: usize,
     block_length: usize,
-) -> Result<Plan, ChainFault> {
+) -> Result<Plan, ChainFault>
+    ensures made { IfOk result (λ p. plan_scheme p ≡ half_rate constraint block_length) }
+{
     let parts = Parts {
         constraint,
         period: 1,

@@ -1,5 +1,5 @@
 // Tables of times.
-use crate::judge::Judge;
+use crate::judge::{JUDGES, Judge};
 use crate::plans::half_rate_plan;
 use crate::timing::measured;
 use crate::trouble::Trouble;
@@ -27,21 +27,28 @@ const HEAD: &'static str =
 // All three kinds, at several ratios.
 pub(crate) fn show_kinds(rt: &HostRuntime) -> Result<(), Trouble> {
     println!(rt; "{HEAD}")?;
-    for constraint in [7, 9] {
-        for block_length in [136, 3072] {
-            let plan = half_rate_plan(rt.alloc(), constraint, block_length)?;
-            show_ratios(rt, &plan, &[0, 1, 2, 3, 5])?;
-        }
-        show_ratios(rt, &LONG.plan(rt.alloc(), constraint)?, &[1, 3])?;
+    show_code(rt, 7)?;
+    show_code(rt, 9)
+}
+
+fn show_code(rt: &HostRuntime, constraint: usize) -> Result<(), Trouble> {
+    for block_length in [136, 3072] {
+        let plan = half_rate_plan(rt.alloc(), constraint, block_length)?;
+        show_ratios(rt, &plan, &[0, 1, 2, 3, 5])?;
     }
-    Ok(())
+    show_ratios(rt, &LONG.plan(rt.alloc(), constraint)?, &[1, 3])
 }
 
 fn show_ratios(rt: &HostRuntime, plan: &Plan, ratios: &[i8]) -> Result<(), Trouble> {
     for decibels in ratios {
-        for judge in [Judge::Total, Judge::Worst, Judge::CountFirst] {
-            show_taken(rt, plan, judge, *decibels)?;
-        }
+        show_judges(rt, plan, *decibels)?;
+    }
+    Ok(())
+}
+
+fn show_judges(rt: &HostRuntime, plan: &Plan, decibels: i8) -> Result<(), Trouble> {
+    for judge in JUDGES {
+        show_taken(rt, plan, judge, decibels)?;
     }
     Ok(())
 }
@@ -49,13 +56,15 @@ fn show_ratios(rt: &HostRuntime, plan: &Plan, ratios: &[i8]) -> Result<(), Troub
 // Total alone, by the length of the block.
 pub(crate) fn show_growth(rt: &HostRuntime) -> Result<(), Trouble> {
     println!(rt; "{HEAD}")?;
-    for constraint in [7, 9] {
-        for decibels in [1, 3, 5] {
-            show_lengths(rt, constraint, decibels)?;
-        }
-        show_taken(rt, &LONGEST.plan(rt.alloc(), constraint)?, Judge::Total, 7)?;
+    show_code_by_length(rt, 7)?;
+    show_code_by_length(rt, 9)
+}
+
+fn show_code_by_length(rt: &HostRuntime, constraint: usize) -> Result<(), Trouble> {
+    for decibels in [1, 3, 5] {
+        show_lengths(rt, constraint, decibels)?;
     }
-    Ok(())
+    show_taken(rt, &LONGEST.plan(rt.alloc(), constraint)?, Judge::Total, 7)
 }
 
 fn show_lengths(rt: &HostRuntime, constraint: usize, decibels: i8) -> Result<(), Trouble> {
