@@ -21,8 +21,8 @@ const LONGEST: Row = Row {
 };
 
 const HEAD: &'static str =
-    "| k | B | dB | kind | looks | looks in a second | trips of a look | ns of a bit and trip |
-|---|---|---|---|---|---|---|---|";
+    "| k | B | dB | kind | looks | looks in a second | µs of a look | trips of a look | ns of a bit and trip |
+|---|---|---|---|---|---|---|---|---|---|";
 
 // All three kinds, at several ratios.
 pub(crate) fn show_kinds(rt: &HostRuntime) -> Result<(), Trouble> {
@@ -87,9 +87,10 @@ fn show_taken(rt: &HostRuntime, plan: &Plan, judge: Judge, decibels: i8) -> Resu
     let taken = measured(rt, plan, judge, decibels)?;
     let looks = taken.looks;
     let rate = taken.looks_in_a_second();
+    let time = taken.microseconds_of_a_look();
     let trips = taken.trips_of_a_look();
     let bit = taken.nanoseconds_of_a_bit(block_length);
     Ok(println!(rt;
-        "| {constraint} | {block_length} | {decibels} | {judge} | {looks} | {rate:.2} | {trips:.2} | {bit:.1} |"
+        "| {constraint} | {block_length} | {decibels} | {judge} | {looks} | {rate:.2} | {time:.0} | {trips:.2} | {bit:.1} |"
     )?)
 }

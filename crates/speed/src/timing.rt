@@ -26,6 +26,10 @@ impl Taken {
         nearest_u64_to_f64(self.looks) / self.seconds
     }
 
+    pub(crate) fn microseconds_of_a_look(&self) -> f64 {
+        self.seconds * 1e6 / nearest_u64_to_f64(self.looks)
+    }
+
     pub(crate) fn trips_of_a_look(&self) -> f64 {
         nearest_u64_to_f64(self.trips) / nearest_u64_to_f64(self.looks)
     }
