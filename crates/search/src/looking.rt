@@ -72,23 +72,6 @@ pub fn search_with_trips<'a, 'c, K: Kind>(
     Ok((score, workspace.trips))
 }
 
-// As `search`, with how many times it went round the trellis.
-pub fn search_with_trips<'a, 'c, K: Kind>(
-    plan: &'a Plan,
-    kind: &'a K,
-    values: &'a [i16],
-    block: &mut [u8],
-    old: &mut Column<'c, K::Score>,
-    new: &mut Column<'c, K::Score>,
-    marks: &mut [u8],
-) -> Result<(K::Score, usize), ChainFault>
-    ensures answer { outcome chain_number result ≡ search_answer (plan_scheme plan.now) (lengths values.now block.old old.old.scores.now new.old.scores.now marks.old) }
-    ensures found { let k = K.Kind.scale kind.now in let s = plan_scheme plan.now in let v = value_at values.now in IfOk result (λ r. Found k s v (bits_of block.new) r.0) }
-{
-    let score = search(plan, kind, values, block, old, new, marks)?;
-    Ok((score, Trellis::of(plan).states() + 1))
-}
-
 // Whether every memory is long enough.
 fn has_room<S: Copy>(
     plan: &Plan,
