@@ -1,1 +1,4 @@
 pub mod Split
+pub mod Numbers
+pub mod Telling
+pub mod Cut

@@ -3,9 +3,18 @@
 use Rattle.std.specs.Prelude.{◌≡◌, ℕ, ◌≤◌, ◌⊎◌, List, [], ◌∷◌, length, Some, None, Ok, Err, Option, Result, slice_index}
 use Rattle.lines.specs.declared.fault.LineFault.{LineFault}
 use Rattle.lines.specs.declared.fault.LineFault.TheVariants.{Form}
-use Rattle.entries.specs.Entries.{Writes}
+use Rattle.entries.specs.Entries.{InRange, entry_words, Writes}
 use Rattle.entries.specs.Words.{words}
 use Rattle.entries.specs.declared.entry.Entry.{Entry}
+
+-- the words are this entry's
+abbrev pub Named : List (List ℕ) → Entry → Type 0
+Named ws e = InRange e × (ws ≡ entry_words e)
+
+-- the entry whose words these are, or none where they are no entry's
+abbrev pub EntryReading : List (List ℕ) → Option Entry → Type 0
+EntryReading ws (Some e) = Named ws e
+EntryReading ws None = (e : Entry) → InRange e → ws ≡ entry_words e → ⊥
 
 -- no word, or a first word that begins with '#'
 abbrev pub Remarks : List (List ℕ) → Type 0

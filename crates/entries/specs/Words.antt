@@ -1,6 +1,6 @@
 -- The words of a line.
 -- Assumes nothing.
-use Rattle.std.specs.Prelude.{ℕ, Bool, cond, ◌||◌, List, [], ◌∷◌, ◌++◌, ◌==◌}
+use Rattle.std.specs.Prelude.{ℕ, Bool, false, cond, ◌&&◌, ◌||◌, List, [], ◌∷◌, ◌++◌, length, ◌==◌, nat_le}
 
 -- white space: space, tab, line feed, form feed, carriage return
 abbrev pub white : ℕ → Bool
@@ -19,3 +19,8 @@ words_from begun (b ∷ text) = cond (white b) (closed begun (words_from [] text
 -- what white space parts
 abbrev pub words : List ℕ → List (List ℕ)
 words text = words_from [] text
+
+-- a word that can begin a number: 0 alone, or first a digit from 1 to 9
+abbrev pub canonical : List ℕ → Bool
+canonical [] = false
+canonical (c ∷ more) = (c == 48 && length more == 0) || (nat_le 49 c && nat_le c 57)

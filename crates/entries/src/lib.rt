@@ -2,6 +2,15 @@
 #![tactic(auto)]
 
 mod entry;
+mod kept;
+mod number;
+mod question;
+mod reading;
 mod words;
+mod writing;
 
 pub use entry::Entry;
+pub use kept::read_line;
+pub use question::Question;
+pub use reading::read_entry;
+pub use writing::{Bits, Refusal};

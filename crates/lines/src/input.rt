@@ -46,6 +46,13 @@ impl Line {
         self.kept.is_empty()
     }
 
+    // What is kept of the line.
+    pub fn bytes(&self) -> &[u8]
+        ensures { result.now ≡ self.now.kept.items }
+    {
+        self.kept.as_slice()
+    }
+
     // Makes room for the next line.
     pub fn clear(&mut self)
         ensures { self.new.kept.items ≡ [] }
