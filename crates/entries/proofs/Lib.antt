@@ -2,3 +2,4 @@ pub mod Split
 pub mod Numbers
 pub mod Telling
 pub mod Cut
+pub mod Single

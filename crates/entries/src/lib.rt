@@ -3,6 +3,7 @@
 
 mod entry;
 mod kept;
+mod law;
 mod number;
 mod question;
 mod reading;
@@ -11,6 +12,7 @@ mod writing;
 
 pub use entry::Entry;
 pub use kept::read_line;
+pub use law::one_entry_holds;
 pub use question::Question;
 pub use reading::read_entry;
 pub use writing::{Bits, Refusal};

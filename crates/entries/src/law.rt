@@ -1,0 +1,8 @@
+// What holds of all lines.
+ghost use Rattle.entries.specs.Laws.{OneEntry, NoIdleEntry};
+
+// No line is that of two entries, nor that of an entry and a comment.
+pub fn one_entry_holds()
+    ensures one { OneEntry }
+    ensures idle { NoIdleEntry }
+{}
