@@ -1,0 +1,26 @@
+use Rattle.std.proofs.Common.{Ok, Err, sym, refl, ap, ◌∙◌, subst, inl, inr}
+use Rattle.std.proofs.lemmas.Result.{err_from_is_err_and}
+use Rattle.entries.specs.Readings.{LineReading}
+use Rattle.reception.specs.Answering.{carried}
+use Rattle.reception.proofs.reception.Reception.answer.Goals as goal
+
+pub returns-in_err-take-in-Some-clause-answers : goal.returns-in_err-take-in-Some-clause-answers
+returns-in_err-take-in-Some-clause-answers g c whole kept =
+    let p = err_from_is_err_and c.from_residual-in_err-take-in-Some.result c.from_residual-in_err-take-in-Some.ensures.1 in
+    inl (
+      c.in-Some.entry,
+      subst (λ o. LineReading whole (Ok o)) c.in-Some.is (c.in_ok-entry.ensures whole kept),
+      (c.take.result, c.take.ensures.takes, p.1 ∙ ap Err p.2 ∙ sym (ap carried c.in_err-take-in-Some.was)),
+    )
+
+pub returns-in_ok-take-in-Some-clause-answers : goal.returns-in_ok-take-in-Some-clause-answers
+returns-in_ok-take-in-Some-clause-answers g c whole kept =
+    inl (
+      c.in-Some.entry,
+      subst (λ o. LineReading whole (Ok o)) c.in-Some.is (c.in_ok-entry.ensures whole kept),
+      (c.take.result, c.take.ensures.takes, sym (ap carried c.in_ok-take-in-Some.was)),
+    )
+
+pub returns-in-None-clause-answers : goal.returns-in-None-clause-answers
+returns-in-None-clause-answers g c whole kept =
+    inr (inl (subst (λ o. LineReading whole (Ok o)) c.in-None.is (c.in_ok-entry.ensures whole kept), refl, refl))
