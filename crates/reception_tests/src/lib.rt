@@ -9,15 +9,29 @@ use std::alloc::Global;
 use std::io;
 
 // What is written to these lines.
-fn replies<K: WrittenKind + Drop>(heap: Global, kind: K, text: &str, output: &mut Vec<u8>) -> io::Result<()> {
+fn replies<K: WrittenKind + Drop>(
+    heap: Global,
+    kind: K,
+    text: &str,
+    output: &mut Vec<u8>,
+) -> io::Result<()> {
     let Ok(mut reception) = reception_of(heap, kind) else {
         return Ok(());
     };
-    receive(heap, &mut reception, text.as_bytes(), output, &mut io::sink())
+    receive(
+        heap,
+        &mut reception,
+        text.as_bytes(),
+        output,
+        &mut io::sink(),
+    )
 }
 
 // A reception of the small plan.
-fn reception_of<K: WrittenKind + Drop>(heap: Global, kind: K) -> Result<Reception<Table, K>, ChainFault> {
+fn reception_of<K: WrittenKind + Drop>(
+    heap: Global,
+    kind: K,
+) -> Result<Reception<Table, K>, ChainFault> {
     let plan = small_plan(heap, 7)?;
     let table = Table::new(3, vec![in heap; 1, 2, 3, 4]?)?;
     Reception::new(heap, plan, table, kind)
@@ -36,7 +50,8 @@ mod tests {
     fn lines_are_answered(rt: HostRuntime) -> Result<(), Fail> {
         let mut said = Vec::new(rt.alloc());
         replies(rt.alloc(), Total, HEARD, &mut said)?;
-        let expected = "# refused 14 line 6: Is the symbol place below N / q?\n# score 0\n100000000\n";
+        let expected =
+            "# refused 14 line 6: Is the symbol place below N / q?\n# score 0\n100000000\n";
         assert_eq!(rt; said.as_slice(), expected.as_bytes());
         Ok(())
     }
@@ -46,8 +61,14 @@ mod tests {
     fn scores_are_written(rt: HostRuntime) -> Result<(), Fail> {
         let mut said = Vec::new(rt.alloc());
         replies(rt.alloc(), Worst, "note 0 -5", &mut said)?;
-        replies(rt.alloc(), CountFirst, "look now\nnote 12 1\nblank 0", &mut said)?;
-        let expected = "# score 0\n000000100\n# refused 18 line 1: Has the line one of the forms that are read, in at most 2,080 characters?\n# refused 17 line 2: Is the location below N, and the value from -32,767 to 32,767?\n# score 0 0\n000000000\n";
+        replies(
+            rt.alloc(),
+            CountFirst,
+            "look now\nnote 12 1\nblank 0",
+            &mut said,
+        )?;
+        let expected =
+            "# score 0\n000000100\n# refused 18 line 1: Has the line one of the forms that are read, in at most 2,080 characters?\n# refused 17 line 2: Is the location below N, and the value from -32,767 to 32,767?\n# score 0 0\n000000000\n";
         assert_eq!(rt; said.as_slice(), expected.as_bytes());
         Ok(())
     }
