@@ -1,3 +1,4 @@
 pub mod Taking
 pub mod Answering
 pub mod Written
+pub mod Receiving

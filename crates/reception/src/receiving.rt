@@ -1,4 +1,11 @@
 // Answering a stream of lines, one line in memory at a time.
+ghost use Rattle.std.specs.Prelude.{◌≡◌, ℕ, List, OnOk};
+ghost use Rattle.std.specs.Io.KnownBytes.{Appends};
+ghost use Rattle.lines.specs.Inputs.{kept_of};
+ghost use Rattle.receiver.specs.Receivers.{view_of};
+ghost use Rattle.replay.specs.Given.{given};
+ghost use Rattle.reception.specs.Receiving.{Replied, Received, Last, ReceivedAll};
+ghost use Rattle.reception.specs.Written.{shown_text};
 
 use crate::reception::Reception;
 use crate::shown::Shown;
@@ -14,7 +21,9 @@ use std::io::{BufReader, Bytes, Read, Write};
 const LONG: usize = 10_000;
 
 // Reads the next line, without its line feed. False where nothing follows the last line feed.
-fn next_line<R: Read + Drop>(input: &mut Bytes<R>, line: &mut Line) -> io::Result<bool> {
+fn next_line<R: Read + Drop>(input: &mut Bytes<R>, line: &mut Line) -> io::Result<bool>
+    ensures { (whole : List ℕ) × (line.new.kept.items ≡ kept_of whole) }
+{
     line.clear();
     for byte in input {
         match byte? {
@@ -43,7 +52,9 @@ fn write_shown<S: Scrambler + Drop, K: WrittenKind + Drop, W: Write>(
     reception: &Reception<S, K>,
     score: K::Score,
     output: &mut W,
-) -> io::Result<()> {
+) -> io::Result<()>
+    ensures { OnOk result (Appends (W.contents output.old) (W.contents output.new) (shown_text (K.written score) reception.now.block.items)) }
+{
     let score = reception.text(score);
     let block = reception.block();
     let shown = Shown { score, block };
@@ -56,7 +67,12 @@ fn answer<S: Scrambler + Drop, K: WrittenKind + Drop, W: Write>(
     line: &Line,
     number: u64,
     output: &mut W,
-) -> io::Result<()> {
+) -> io::Result<()>
+    ensures replied { (whole : List ℕ) → line.now.kept.items ≡ kept_of whole → let v = view_of S.meaning reception.old.receiver in let w = given reception.old.values.items reception.old.block.items reception.old.scores.items reception.old.marks.items in let k = K.Kind.scale reception.old.kind in OnOk result ((text : List ℕ) × Replied k K.written v w number whole reception.old.values.items reception.new.values.items text × Appends (W.contents output.old) (W.contents output.new) text) }
+    ensures kept { view_of S.meaning reception.new.receiver ≡ view_of S.meaning reception.old.receiver }
+    ensures kind { reception.new.kind ≡ reception.old.kind }
+    ensures lengths { given reception.new.values.items reception.new.block.items reception.new.scores.items reception.new.marks.items ≡ given reception.old.values.items reception.old.block.items reception.old.scores.items reception.old.marks.items }
+{
     match reception.answer(line) {
         Ok(None) => Ok(()),
         Ok(Some(score)) => write_shown(reception, score, output),
@@ -74,11 +90,37 @@ fn answer<S: Scrambler + Drop, K: WrittenKind + Drop, W: Write>(
 fn show_last<S: Scrambler + Drop, K: WrittenKind + Drop, W: Write>(
     reception: &mut Reception<S, K>,
     output: &mut W,
-) -> io::Result<()> {
-    if let Ok(Some(score)) = reception.take(Entry::Look) {
-        write_shown(reception, score, output)?;
+) -> io::Result<()>
+    ensures { let v = view_of S.meaning reception.old.receiver in let w = given reception.old.values.items reception.old.block.items reception.old.scores.items reception.old.marks.items in let k = K.Kind.scale reception.old.kind in OnOk result ((text : List ℕ) × Last k K.written v w reception.old.values.items text × Appends (W.contents output.old) (W.contents output.new) text) }
+{
+    let score = reception.show();
+    write_shown(reception, score, output)
+}
+
+// Answers every line of the input.
+fn answer_all<S: Scrambler + Drop, K: WrittenKind + Drop, R: Read + Drop, W: Write, P: Write>(
+    reception: &mut Reception<S, K>,
+    input: &mut Bytes<R>,
+    line: &mut Line,
+    output: &mut W,
+    progress: &mut P,
+) -> io::Result<()>
+    ensures received { let v = view_of S.meaning reception.old.receiver in let w = given reception.old.values.items reception.old.block.items reception.old.scores.items reception.old.marks.items in let k = K.Kind.scale reception.old.kind in OnOk result ((lines : List (List ℕ)) × (text : List ℕ) × Received k K.written v w 1 lines reception.old.values.items reception.new.values.items text × Appends (W.contents output.old) (W.contents output.new) text) }
+    ensures kept { view_of S.meaning reception.new.receiver ≡ view_of S.meaning reception.old.receiver }
+    ensures kind { reception.new.kind ≡ reception.old.kind }
+    ensures lengths { given reception.new.values.items reception.new.block.items reception.new.scores.items reception.new.marks.items ≡ given reception.old.values.items reception.old.block.items reception.old.scores.items reception.old.marks.items }
+{
+    for number in 0..u64::MAX {
+        if !next_line(input, line)? {
+            break;
+        }
+        if is_look(line) {
+            output.flush()?;
+            announce(reception.block().len(), progress)?;
+        }
+        answer(reception, line, number + 1, output)?;
     }
-    output.flush()
+    Ok(())
 }
 
 // Answers every line of the input, and shows the best block at its end.
@@ -88,20 +130,13 @@ pub fn receive<S: Scrambler + Drop, K: WrittenKind + Drop, R: Read + Drop, W: Wr
     input: R,
     output: &mut W,
     progress: &mut P,
-) -> io::Result<()> {
-    let bits = reception.block().len();
+) -> io::Result<()>
+    ensures { let v = view_of S.meaning reception.old.receiver in let w = given reception.old.values.items reception.old.block.items reception.old.scores.items reception.old.marks.items in let k = K.Kind.scale reception.old.kind in OnOk result ((text : List ℕ) × ReceivedAll k K.written v w reception.old.values.items text × Appends (W.contents output.old) (W.contents output.new) text) }
+{
     let mut bytes = BufReader::new(heap, input)?.bytes();
     let mut line = Line::new(heap);
-    for number in 1..=u64::MAX {
-        if !next_line(&mut bytes, &mut line)? {
-            break;
-        }
-        if is_look(&line) {
-            output.flush()?;
-            announce(bits, progress)?;
-        }
-        answer(reception, &line, number, output)?;
-    }
-    announce(bits, progress)?;
-    show_last(reception, output)
+    answer_all(reception, &mut bytes, &mut line, output, progress)?;
+    announce(reception.block().len(), progress)?;
+    show_last(reception, output)?;
+    output.flush()
 }

@@ -9,7 +9,7 @@ ghost use Rattle.receiver.specs.Receivers.{view, view_of};
 ghost use Rattle.replay.specs.Given.{given};
 ghost use Rattle.replay.specs.Ledger.{ledger};
 ghost use Rattle.reception.specs.Answering.{Answers};
-ghost use Rattle.reception.specs.Taking.{Takes};
+ghost use Rattle.reception.specs.Taking.{Takes, Shows};
 
 use crate::carrying::carry_out;
 use crate::reception::Reception;
@@ -62,6 +62,7 @@ impl<S: Scrambler + Drop, K: Kind + Drop> Reception<S, K> {
     pub fn take(&mut self, entry: Entry) -> Result<Option<K::Score>, ChainFault>
         ensures takes { let v = view_of S.meaning self.old.receiver in let w = given self.old.values.items self.old.block.items self.old.scores.items self.old.marks.items in Takes (K.Kind.scale self.old.kind) v w self.old.values.items entry result self.new.values.items self.new.block.items }
         ensures kept { view_of S.meaning self.new.receiver ≡ view_of S.meaning self.old.receiver }
+        ensures kind { self.new.kind ≡ self.old.kind }
         ensures lengths { given self.new.values.items self.new.block.items self.new.scores.items self.new.marks.items ≡ given self.old.values.items self.old.block.items self.old.scores.items self.old.marks.items }
     {
         carry_out(
@@ -75,10 +76,23 @@ impl<S: Scrambler + Drop, K: Kind + Drop> Reception<S, K> {
         )
     }
 
+    // Shows the best block, and answers its score. A reception has the memory that a look needs, so a look is never refused.
+    pub fn show(&mut self) -> K::Score
+        ensures shows { let v = view_of S.meaning self.old.receiver in let w = given self.old.values.items self.old.block.items self.old.scores.items self.old.marks.items in Shows (K.Kind.scale self.old.kind) v w self.old.values.items self.new.block.items result }
+        ensures values { self.new.values.items ≡ self.old.values.items }
+        ensures kept { view_of S.meaning self.new.receiver ≡ view_of S.meaning self.old.receiver }
+        ensures kind { self.new.kind ≡ self.old.kind }
+        ensures lengths { given self.new.values.items self.new.block.items self.new.scores.items self.new.marks.items ≡ given self.old.values.items self.old.block.items self.old.scores.items self.old.marks.items }
+    {
+        let shown = self.take(Entry::Look);
+        shown.unwrap().unwrap()
+    }
+
     // Answers a line: takes its entry, where it has one. What is kept of a line is answered as the whole line.
     pub fn answer(&mut self, line: &Line) -> Result<Option<K::Score>, LineFault>
         ensures answers { (whole : List ℕ) → line.now.kept.items ≡ kept_of whole → let v = view_of S.meaning self.old.receiver in let w = given self.old.values.items self.old.block.items self.old.scores.items self.old.marks.items in Answers (K.Kind.scale self.old.kind) v w self.old.values.items whole result self.new.values.items self.new.block.items }
         ensures kept { view_of S.meaning self.new.receiver ≡ view_of S.meaning self.old.receiver }
+        ensures kind { self.new.kind ≡ self.old.kind }
         ensures lengths { given self.new.values.items self.new.block.items self.new.scores.items self.new.marks.items ≡ given self.old.values.items self.old.block.items self.old.scores.items self.old.marks.items }
     {
         match read_line(line)? {

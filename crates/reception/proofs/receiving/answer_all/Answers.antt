@@ -1,0 +1,45 @@
+use Rattle.std.proofs.Common.{◌≡◌, ◌+◌, [], ◌∷◌, ◌++◌, length, sym, ◌∙◌, subst, arith}
+use Rattle.std.proofs.lemmas.List.{length_push}
+use Rattle.std.specs.Io.KnownBytes.{Appends}
+use Rattle.receiver.specs.Receivers.{view_of}
+use Rattle.replay.specs.Given.{given}
+use Rattle.reception.specs.Receiving.{Replied}
+use Rattle.reception.proofs.Received.{appends_both, then_keeps, received_more}
+use Rattle.reception.proofs.receiving.answer_all.Goals as goal
+use Rattle.reception.proofs.receiving.answer_all.Goals.{then-is_look+in_ok-flush+in_ok-announce, else-is_look}
+
+pub loop-number-preserved : goal.loop-number-preserved
+loop-number-preserved g c =
+    let x = c.args.reception.now in
+    let y = c.loop-number.reception in
+    let scale = g.K.Kind.scale in
+    let written = g.K.WrittenKind.written in
+    let contents = g.W.Write.contents in
+    let v = view_of g.S.Scrambler.meaning x.receiver in
+    let w = given x.values.items x.block.items x.scores.items x.marks.items in
+    let inv = c.loop-number.invariant in
+    let a = inv.answered in
+    let n = c.next_line.ensures in
+    let r = c.in_ok-answer.ensures.replied n.0 n.1 in
+    let left = c.answer.new.reception.values.items in
+    let by_kind = subst (λ q. Replied (scale q) written (view_of g.S.Scrambler.meaning y.receiver) (given y.values.items y.block.items y.scores.items y.marks.items) (c.loop-number.number + 1) n.0 y.values.items left r.0) inv.kind r.1 in
+    let by_view = subst (λ q. Replied (scale x.kind) written q (given y.values.items y.block.items y.scores.items y.marks.items) (c.loop-number.number + 1) n.0 y.values.items left r.0) inv.kept by_kind in
+    let by_lengths = subst (λ q. Replied (scale x.kind) written v q (c.loop-number.number + 1) n.0 y.values.items left r.0) inv.lengths by_view in
+    let by_number = subst (λ m. Replied (scale x.kind) written v w m n.0 y.values.items left r.0) (let e : c.loop-number.number + 1 ≡ 1 + length a.0 = omega (arith, a.2) in e) by_lengths in
+    let upto : Appends (contents c.args.output.now) (contents c.if-is_look.output) a.1 =
+    elim c.if-is_look.branch [
+      | then-is_look+in_ok-flush+in_ok-announce b ↦ subst (λ o. Appends (contents c.args.output.now) (contents o) a.1) (sym b.output-is) (then_keeps _ _ _ a.1 a.4 b.flush.ensures.bytes)
+      | else-is_look b ↦ subst (λ o. Appends (contents c.args.output.now) (contents o) a.1) (sym b.output-is) a.4
+    ] in
+    record {
+      answered = (
+        a.0 ++ (n.0 ∷ []),
+        a.1 ++ r.0,
+        omega (arith, a.2, length_push a.0 n.0),
+        received_more (scale x.kind) written v w 1 a.0 n.0 x.values.items y.values.items left a.1 r.0 a.3 by_number,
+        appends_both _ _ _ a.1 r.0 upto r.2,
+      );
+      kept = c.in_ok-answer.ensures.kept ∙ inv.kept;
+      kind = c.in_ok-answer.ensures.kind ∙ inv.kind;
+      lengths = c.in_ok-answer.ensures.lengths ∙ inv.lengths;
+    }

@@ -1,0 +1,21 @@
+use Rattle.std.proofs.Common.{◌≡◌, ℕ, List, length, ℤ}
+use Rattle.std.specs.Io.KnownBytes.{Appends}
+use Rattle.receiver.specs.Receivers.{view_of}
+use Rattle.replay.specs.Given.{given}
+use Rattle.reception.specs.Receiving.{Received}
+use Rattle.reception.proofs.receiving.answer_all.Given as goal
+
+-- the lines so far are answered
+abbrev pub invariant-loop-number : goal.invariant-loop-number
+invariant-loop-number g l =
+    let x = l.initial.reception in
+    let y = l.reception in
+    let v = view_of g.S.Scrambler.meaning x.receiver in
+    let w = given x.values.items x.block.items x.scores.items x.marks.items in
+    record {
+      answered : (lines : List (List ℕ)) × (text : List ℕ) × (length lines ≡ l.number)
+          × Received (g.K.Kind.scale x.kind) g.K.WrittenKind.written v w 1 lines x.values.items y.values.items text × Appends (g.W.Write.contents l.initial.output) (g.W.Write.contents l.output) text;
+      kept : view_of g.S.Scrambler.meaning y.receiver ≡ v;
+      kind : y.kind ≡ x.kind;
+      lengths : given y.values.items y.block.items y.scores.items y.marks.items ≡ w;
+    }

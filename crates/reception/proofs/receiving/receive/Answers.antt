@@ -1,0 +1,25 @@
+use Rattle.std.proofs.Common.{◌++◌, refl, subst}
+use Rattle.receiver.specs.Receivers.{view_of}
+use Rattle.replay.specs.Given.{given}
+use Rattle.reception.specs.Receiving.{Last}
+use Rattle.reception.proofs.Received.{appends_both, then_keeps, always}
+use Rattle.reception.proofs.receiving.receive.Goals as goal
+
+pub returns : goal.returns
+returns g c =
+    let x = c.args.reception.now in
+    let y = c.answer_all.new.reception in
+    let scale = g.K.Kind.scale in
+    let written = g.K.WrittenKind.written in
+    let v = view_of g.S.Scrambler.meaning x.receiver in
+    let e = c.in_ok-answer_all.ensures in
+    let a = e.received in
+    let b = c.in_ok-show_last.ensures in
+    let by_kind = subst (λ q. Last (scale q) written (view_of g.S.Scrambler.meaning y.receiver) (given y.values.items y.block.items y.scores.items y.marks.items) y.values.items b.0) e.kind b.1 in
+    let by_view = subst (λ q. Last (scale x.kind) written q (given y.values.items y.block.items y.scores.items y.marks.items) y.values.items b.0) e.kept by_kind in
+    let by_lengths = subst (λ q. Last (scale x.kind) written v q y.values.items b.0) e.lengths by_view in
+    always c.flush.result _ (
+      a.1 ++ b.0,
+      record { lines = a.0; left = y.values.items; body = a.1; end = b.0; received = a.2; shown = by_lengths; all = refl },
+      then_keeps _ _ _ (a.1 ++ b.0) (appends_both _ _ _ a.1 b.0 a.3 b.2) c.flush.ensures.bytes,
+    )
