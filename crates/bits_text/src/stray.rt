@@ -1,0 +1,21 @@
+// What stands in a text of bits and is no bit.
+use std::fmt;
+
+#[derive(Clone, Copy, Debug, PartialEq, Eq)]
+pub struct Stray {
+    // counted from 1
+    pub line: u64,
+    pub byte: u8,
+}
+
+impl fmt::Display for Stray {
+    fn fmt<W: fmt::Write>(&self, f: &mut fmt::Formatter<W>) -> fmt::Result {
+        let Stray { line, byte } = *self;
+        if byte.is_ascii_graphic() {
+            let shown = char::from(byte);
+            write!(f, "line {line}: '{shown}' is no bit")
+        } else {
+            write!(f, "line {line}: the byte {byte} is no bit")
+        }
+    }
+}

@@ -1,0 +1,25 @@
+// The program chain: rows, plans, blocks on the air and back, and counts, as lines of text.
+#![tactic(auto)]
+
+mod obeying;
+mod stop;
+
+use crate::obeying::obey;
+use crate::stop::Stop;
+use orders::order_of;
+use std::process::ExitCode;
+use std::{env, io};
+
+fn main(rt: HostRuntime) -> io::Result<ExitCode> {
+    let words = env::args(&rt)?.skip(1).collect::<Vec<String>>(rt.alloc())?;
+    if let Err(stop) = run(&rt, words.as_slice()) {
+        eprintln!(rt; "chain: {stop}")?;
+        return Ok(ExitCode::FAILURE);
+    }
+    Ok(ExitCode::SUCCESS)
+}
+
+// Does what the words ask for.
+fn run<'a>(rt: &HostRuntime, words: &'a [String]) -> Result<(), Stop<'a>> {
+    obey(rt, order_of(words)?)
+}

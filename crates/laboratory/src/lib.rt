@@ -1,0 +1,14 @@
+// What a laboratory does with the chain at a command line, over any readers and writers.
+#![tactic(auto)]
+
+mod counting;
+mod rows;
+mod sending;
+mod table;
+mod trouble;
+
+pub use counting::count;
+pub use rows::{write_plan, write_rows};
+pub use sending::{send_drawn, send_text};
+pub use table::{register_table, table_of};
+pub use trouble::Trouble;

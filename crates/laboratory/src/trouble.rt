@@ -1,0 +1,65 @@
+// What can go wrong, and how it is said.
+use bits_text::Stray;
+use plan::ChainFault;
+use std::alloc::{AllocError, AllocFailed};
+use std::{fmt, io};
+
+#[derive(Debug, Drop)]
+pub enum Trouble {
+    // a question of the chain that is answered no
+    Chain(ChainFault),
+    // a text of bits, named here, has something else in it
+    Bits { text: &'static str, stray: Stray },
+    // the last block of a text lacks bits: how many it has, and how many a block has
+    Unfinished { bits: usize, length: usize },
+    // a line of a table has something else than values from 0 to 255
+    Value { line: u64 },
+    Outside(io::Error),
+}
+
+impl fmt::Display for Trouble {
+    fn fmt<W: fmt::Write>(&self, f: &mut fmt::Formatter<W>) -> fmt::Result {
+        match self {
+            Trouble::Chain(fault) => {
+                let number = u8::from(*fault);
+                write!(f, "refused {number}: {fault}")
+            }
+            Trouble::Bits { text, stray } => write!(f, "{text}, {stray}"),
+            Trouble::Unfinished { bits, length } => write!(
+                f,
+                "the last block has {bits} bits, and a block of this row has {length}"
+            ),
+            Trouble::Value { line } => write!(
+                f,
+                "the table, line {line}: something else than whole numbers up to 255"
+            ),
+            Trouble::Outside(error) => write!(f, "{error}"),
+        }
+    }
+}
+
+impl From<ChainFault> for Trouble {
+    fn from(fault: ChainFault) -> Trouble {
+        Trouble::Chain(fault)
+    }
+}
+
+impl From<io::Error> for Trouble {
+    fn from(error: io::Error) -> Trouble {
+        Trouble::Outside(error)
+    }
+}
+
+impl From<AllocError> for Trouble {
+    fn from(_e: AllocError) -> Trouble {
+        Trouble::Chain(ChainFault::OutOfMemory)
+    }
+}
+
+impl<T: Drop> From<AllocFailed<T>> for Trouble {
+    fn from(_e: AllocFailed<T>) -> Trouble {
+        Trouble::Chain(ChainFault::OutOfMemory)
+    }
+}
+
+impl std::error::Error for Trouble {}

@@ -1,0 +1,88 @@
+// The words of a command line, read as an order.
+use crate::numbers::number;
+use crate::order::{Choice, Order};
+use crate::settings::Settings;
+use crate::slip::Slip;
+use rows::Row;
+
+// The row and the constraint length that four words name.
+fn choice_of(
+    bandwidth: &str,
+    waveform: &str,
+    interleaver: &str,
+    constraint: &str,
+) -> Result<Choice, Slip> {
+    Ok(Choice {
+        row: Row {
+            bandwidth: number(bandwidth, "bandwidth")?,
+            waveform: number(waveform, "waveform")?,
+            interleaver: number(interleaver, "interleaver")?,
+        },
+        constraint: number(constraint, "constraint length")?,
+    })
+}
+
+// The four words of a row and its code, and the words behind them.
+fn split_choice(words: &[String]) -> Result<(Choice, &[String]), Slip> {
+    let [bandwidth, waveform, interleaver, constraint, rest @ ..] = words else {
+        return Err(Slip::Count);
+    };
+    let choice = choice_of(
+        bandwidth.as_str(),
+        waveform.as_str(),
+        interleaver.as_str(),
+        constraint.as_str(),
+    )?;
+    Ok((choice, rest))
+}
+
+fn rows_order<'a>(words: &'a [String]) -> Result<Order<'a>, Slip> {
+    match words {
+        [] => Ok(Order::Rows),
+        _ => Err(Slip::Count),
+    }
+}
+
+fn plan_order<'a>(words: &'a [String]) -> Result<Order<'a>, Slip> {
+    match split_choice(words)? {
+        (choice, []) => Ok(Order::Plan(choice)),
+        _ => Err(Slip::Count),
+    }
+}
+
+fn send_order<'a>(words: &'a [String]) -> Result<Order<'a>, Slip> {
+    let (choice, rest) = split_choice(words)?;
+    let settings = Settings::to_send(rest)?;
+    Ok(Order::Send { choice, settings })
+}
+
+fn receive_order<'a>(words: &'a [String]) -> Result<Order<'a>, Slip> {
+    let (choice, rest) = split_choice(words)?;
+    let settings = Settings::to_receive(rest)?;
+    Ok(Order::Receive { choice, settings })
+}
+
+fn count_order<'a>(words: &'a [String]) -> Result<Order<'a>, Slip> {
+    match words {
+        [sent, shown] => Ok(Order::Count {
+            sent: sent.as_str(),
+            shown: shown.as_str(),
+        }),
+        _ => Err(Slip::Files),
+    }
+}
+
+// The order that these words give: a word, and what belongs to it.
+pub fn order_of<'a>(words: &'a [String]) -> Result<Order<'a>, Slip> {
+    let [word, rest @ ..] = words else {
+        return Err(Slip::Word);
+    };
+    match word.as_str() {
+        "rows" => rows_order(rest),
+        "plan" => plan_order(rest),
+        "send" => send_order(rest),
+        "receive" => receive_order(rest),
+        "count" => count_order(rest),
+        _ => Err(Slip::Word),
+    }
+}
