@@ -1,6 +1,6 @@
 -- A text of bits with one byte more.
 -- Assumes nothing.
-use Rattle.std.proofs.Common.{◌≡◌, ℕ, zero, suc, ◌+◌, ◌-◌, ◌^◌, ◌<◌, ◌≤◌, min, Bool, true, false, cond, List, [], ◌∷◌, ◌++◌, map, length, sym, refl, ap, ◌∙◌, append_assoc, append-nil, add-zero, arith}
+use Rattle.std.proofs.Common.{◌≡◌, ℕ, zero, suc, ◌+◌, ◌-◌, ◌^◌, ◌<◌, ◌≤◌, min, Bool, true, false, cond, List, [], ◌∷◌, ◌++◌, map, length, sym, refl, ap, ◌∙◌, append_assoc, append-nil, arith}
 use Rattle.std.specs.Prelude.{◌==◌, ◌||◌}
 use Rattle.std.proofs.lemmas.Bool.Decides.{nat_tests}
 use Rattle.std.proofs.lemmas.Bool.{ne_eqb, cond-false, true≢false}
@@ -8,7 +8,7 @@ use Rattle.std.proofs.ByRecursion.{All-push}
 use Rattle.std.proofs.lemmas.List.{map-append}
 use Rattle.bits_text.specs.Texts.{ends_inside, comment_after, mark, marks, Bits, digit, digits, block_line, Says}
 use Rattle.bits_text.specs.Laws.{ComesBack}
-use Rattle.bits_text.specs.Readings.{At, line_feeds}
+use Rattle.bits_text.specs.Readings.{At, line_after}
 use Rattle.bits_text.specs.declared.reader.BitsReader.{BitsReader}
 
 pub ends_push : (inside : Bool) (text : List ℕ) (c : ℕ) → ends_inside inside (text ++ c ∷ []) ≡ comment_after (ends_inside inside text) c
@@ -20,10 +20,6 @@ marks_push inside [] c = append-nil (mark inside c)
 marks_push inside (x ∷ text) c =
     ap (λ l. mark inside x ++ l) (marks_push (comment_after inside x) text c)
     ∙ sym (append_assoc (mark inside x) (marks (comment_after inside x) text) (mark (ends_inside (comment_after inside x) text) c))
-
-pub line_feeds_push : (text : List ℕ) (c : ℕ) → line_feeds (text ++ c ∷ []) ≡ line_feeds text + cond (c == 10) 1 0
-line_feeds_push [] c = omega arith
-line_feeds_push (x ∷ text) c = let e = line_feeds_push text c in omega arith
 
 -- a bit more
 says_more : (text bits : List ℕ) (c b : ℕ) → Says text bits → b < 2 → mark (ends_inside false text) c ≡ (48 + b) ∷ [] → Says (text ++ c ∷ []) (bits ++ b ∷ [])
@@ -64,7 +60,7 @@ says_digit text bits c h e d =
     says_more text bits c (c - 48) h b.1 (e ∙ ap (λ n. n ∷ []) b.0)
 
 -- the line of a block is read as that block
-digits_written : (block : List ℕ) → Bits block → map digit block ≡ digits block
+pub digits_written : (block : List ℕ) → Bits block → map digit block ≡ digits block
 digits_written [] h = refl
 digits_written (b ∷ block) h = let same : cond (b == 0) 48 49 ≡ 48 + b = grind (arith, h.0, nat_tests) in ap (λ d. d ∷ map digit block) same ∙ ap (λ l. (48 + b) ∷ l) (digits_written block h.1)
 
@@ -76,7 +72,7 @@ digit_mark b =
       | false ↦ (refl, refl)
     ]
 
-digit_marks : (block : List ℕ) → marks false (map digit block ++ 10 ∷ []) ≡ map digit block
+pub digit_marks : (block : List ℕ) → marks false (map digit block ++ 10 ∷ []) ≡ map digit block
 digit_marks [] = refl
 digit_marks (b ∷ block) =
     let m = digit_mark b in
@@ -102,25 +98,19 @@ comes_back block h =
       λ other g. digits_same other block (g.written ∙ e),
     )
 
-one_more : (n : ℕ) → min (min (1 + n) (2 ^ 64 - 1) + 1) (2 ^ 64 - 1) ≡ min (1 + (n + 1)) (2 ^ 64 - 1)
-one_more n = omega arith
-
 -- the reader goes past a line feed
-pub at_line_feed : (r : BitsReader) (text : List ℕ) (c line : ℕ) → At r text → c ≡ 10 → line ≡ min (r.line + 1) (2 ^ 64 - 1) → At (record { in_comment = false; line = line }) (text ++ c ∷ [])
-at_line_feed r text c line h e l =
-    let fed = line_feeds_push text c ∙ ap (λ n. line_feeds text + cond (n == 10) 1 0) e in
-    record {
-      comment = sym (ends_push false text c ∙ ap (comment_after (ends_inside false text)) e);
-      line = l ∙ ap (λ n. min (n + 1) (2 ^ 64 - 1)) h.line ∙ one_more (line_feeds text) ∙ ap (λ n. min (1 + n) (2 ^ 64 - 1)) (sym fed);
-    }
+pub at_line_feed : (r : BitsReader) (text : List ℕ) (c line : ℕ) → c ≡ 10 → At (record { in_comment = false; line = line }) (text ++ c ∷ [])
+at_line_feed r text c line e = record { comment = sym (ends_push false text c ∙ ap (comment_after (ends_inside false text)) e) }
 
 -- the reader goes past another byte
 pub at_other : (r : BitsReader) (text : List ℕ) (c : ℕ) (inside : Bool) → At r text → (c ≡ 10 → ⊥) → inside ≡ (r.in_comment || c == 35) → At (record { in_comment = inside; line = r.line }) (text ++ c ∷ [])
-at_other r text c inside h ne e =
-    let other = ne_eqb c 10 ne in
-    let fed = line_feeds_push text c ∙ ap (λ b. line_feeds text + cond b 1 0) other in
-    record {
-      comment = e ∙ ap (λ b. b || c == 35) h.comment
-          ∙ sym (ends_push false text c ∙ cond-false (c == 10) false (ends_inside false text || c == 35) other);
-      line = h.line ∙ ap (λ n. min (1 + n) (2 ^ 64 - 1)) (sym (fed ∙ add-zero (line_feeds text)));
-    }
+at_other r text c inside h ne e = record {
+  comment = e ∙ ap (λ b. b || c == 35) h.comment
+      ∙ sym (ends_push false text c ∙ cond-false (c == 10) false (ends_inside false text || c == 35) (ne_eqb c 10 ne));
+}
+
+pub line_feed : (c line : ℕ) → c ≡ 10 → line_after line c ≡ min (line + 1) (2 ^ 64 - 1)
+line_feed c line e = ap (line_after line) e
+
+pub no_line_feed : (c line : ℕ) → (c ≡ 10 → ⊥) → line_after line c ≡ line
+no_line_feed c line ne = cond-false (c == 10) (min (line + 1) (2 ^ 64 - 1)) line (ne_eqb c 10 ne)

@@ -1,7 +1,8 @@
-// What holds of every block.
-ghost use Rattle.bits_text.specs.Laws.{ComesBack};
+// What holds of all blocks.
+ghost use Rattle.bits_text.specs.Laws.{ComesBack, AllComeBack};
 
-// The line of a block says its bits, and no others.
-pub fn written_block_holds()
-    ensures { ComesBack }
+// The line of a block says its bits and no others, and the lines of blocks have these blocks.
+pub fn written_blocks_hold()
+    ensures one { ComesBack }
+    ensures all { AllComeBack }
 {}

@@ -1,7 +1,7 @@
 // A text of bits, read a byte at a time.
-ghost use Rattle.std.specs.Prelude.{◌≡◌, ℕ, ◌||◌, ◌==◌, cond, List, [], ◌∷◌, ◌++◌};
+ghost use Rattle.std.specs.Prelude.{◌≡◌, ℕ, ◌||◌, ◌==◌, false, cond, List, [], ◌∷◌, ◌++◌, OnOk};
 ghost use Rattle.bits_text.specs.Texts.{is_space, mark, Says};
-ghost use Rattle.bits_text.specs.Readings.{At, Taken};
+ghost use Rattle.bits_text.specs.Readings.{At, line_after, Taken};
 
 use crate::stray::Stray;
 
@@ -36,7 +36,8 @@ fn is_digit(byte: u8) -> bool
 impl BitsReader {
     // Before the first byte of a text.
     pub fn new() -> BitsReader
-        ensures { At result [] }
+        ensures start { At result [] }
+        ensures first { result.line ≡ 1 }
     {
         BitsReader {
             in_comment: false,
@@ -46,7 +47,8 @@ impl BitsReader {
 
     // Goes past a byte.
     fn pass(&mut self, byte: u8)
-        ensures { (text : List ℕ) → At self.old text → At self.new (text ++ byte ∷ []) }
+        ensures place { (text : List ℕ) → At self.old text → At self.new (text ++ byte ∷ []) }
+        ensures line { self.new.line ≡ line_after self.old.line byte }
     {
         if byte == b'\n' {
             self.in_comment = false;
@@ -56,9 +58,18 @@ impl BitsReader {
         }
     }
 
+    // The next byte is read as the first of a line.
+    pub fn begin_line(&mut self)
+        ensures start { At self.new [] }
+        ensures line { self.new.line ≡ self.old.line }
+    {
+        self.in_comment = false;
+    }
+
     // Goes past a byte, and answers the bit that it is, if it is one.
     pub fn take(&mut self, byte: u8) -> Result<Option<u8>, Stray>
-        ensures { (text bits : List ℕ) → At self.old text → Says text bits → Taken self.old text bits byte self.new result }
+        ensures said { (text bits : List ℕ) → At self.old text → Says text bits → Taken self.old text bits byte self.new result }
+        ensures line { OnOk result (self.new.line ≡ line_after self.old.line byte) }
     {
         if !is_mark(self.in_comment, byte) {
             self.pass(byte);

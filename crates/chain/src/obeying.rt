@@ -6,7 +6,7 @@ use plan::Plan;
 use scrambler::Table;
 use std::fs;
 use std::fs::File;
-use std::io::{BufWriter, Write, sink, writer};
+use std::io::{BufReader, BufWriter, Write, sink, writer};
 
 // Where the blocks that are drawn go, if no other file is named.
 const DRAWN: &'static str = "sent.txt";
@@ -88,6 +88,8 @@ fn receive<'a>(rt: &HostRuntime, choice: Choice, settings: Settings<'a>) -> Resu
 }
 
 fn show_count<'a>(rt: &HostRuntime, sent: &'a str, shown: &'a str) -> Result<(), Stop<'a>> {
-    let comparison = count(rt.alloc(), opened(rt, sent)?, opened(rt, shown)?)?;
-    Ok(println!(rt; "{comparison}")?)
+    let sent = BufReader::new(rt.alloc(), opened(rt, sent)?)?;
+    let shown = BufReader::new(rt.alloc(), opened(rt, shown)?)?;
+    let comparison = count(rt.alloc(), sent, shown)?;
+    Ok(print!(rt; "{comparison}")?)
 }

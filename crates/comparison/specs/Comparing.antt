@@ -1,6 +1,6 @@
 -- Sent blocks beside shown ones.
 -- Assumes nothing.
-use Rattle.std.specs.Prelude.{ℕ, cond, List, length, ◌==◌}
+use Rattle.std.specs.Prelude.{ℕ, cond, List, [], ◌∷◌, length, ◌==◌}
 use Rattle.errors.specs.Errors.{added, with_block}
 use Rattle.comparison.specs.declared.comparison.Comparison.{Comparison}
 
@@ -26,3 +26,14 @@ with_sent c = record c { sent_alone = added c.sent_alone 1 }
 -- a shown block with none beside it
 abbrev pub with_shown : Comparison → Comparison
 with_shown c = record c { shown_alone = added c.shown_alone 1 }
+
+-- shown blocks with no sent ones beside them
+abbrev pub all_shown : Comparison → List (List ℕ) → Comparison
+all_shown c [] = c
+all_shown c (y ∷ ys) = all_shown (with_shown c) ys
+
+-- sent blocks beside shown ones, the first beside the first
+abbrev pub compared : Comparison → List (List ℕ) → List (List ℕ) → Comparison
+compared c [] ys = all_shown c ys
+compared c (x ∷ xs) [] = compared (with_sent c) xs []
+compared c (x ∷ xs) (y ∷ ys) = compared (with_pair c x y) xs ys

@@ -2,13 +2,13 @@
 #![tactic(auto)]
 
 mod counting;
-mod rows;
+mod listing;
 mod sending;
 mod table;
 mod trouble;
 
 pub use counting::count;
-pub use rows::{write_plan, write_rows};
+pub use listing::{write_plan, write_rows};
 pub use sending::{send_drawn, send_text};
 pub use table::{register_table, table_of};
 pub use trouble::Trouble;

@@ -14,6 +14,8 @@ pub enum Trouble {
     Unfinished { bits: usize, length: usize },
     // a line of a table has something else than values from 0 to 255
     Value { line: u64 },
+    // a text has more blocks than 64 bits can count
+    Endless,
     Outside(io::Error),
 }
 
@@ -33,6 +35,7 @@ impl fmt::Display for Trouble {
                 f,
                 "the table, line {line}: something else than whole numbers up to 255"
             ),
+            Trouble::Endless => f.write_str("a text has no end"),
             Trouble::Outside(error) => write!(f, "{error}"),
         }
     }

@@ -1,0 +1,67 @@
+-- Lines and their blocks.
+-- Assumes nothing.
+use Rattle.std.proofs.Common.{◌≡◌, ℕ, zero, suc, ◌+◌, ◌-◌, ◌<◌, Bool, true, false, cond, List, [], ◌∷◌, ◌++◌, map, length, sym, refl, ap, ◌∙◌, append_assoc, append-nil, arith}
+use Rattle.std.specs.Prelude.{◌==◌}
+use Rattle.std.specs.List.{flat_map, AllByRecursion}
+use Rattle.std.proofs.lemmas.Bool.{ne_eqb, cond-false}
+use Rattle.bits_text.specs.Texts.{mark, marks, ends_inside, Bits, digit, digits, block_line, Says}
+use Rattle.bits_text.specs.Blocks.{line_bits, line_block, blocks_from}
+use Rattle.bits_text.specs.Laws.{Filled, AllComeBack}
+use Rattle.bits_text.proofs.Pushed.{digits_written, digit_marks, marks_push}
+
+bits_of_digits : (bits : List ℕ) → map (λ d. d - 48) (digits bits) ≡ bits
+bits_of_digits [] = refl
+bits_of_digits (b ∷ bits) = let e : 48 + b - 48 ≡ b = omega arith in let f = bits_of_digits bits in cc
+
+-- what a line says are its bits
+pub line_bits_said : (line bits : List ℕ) → Says line bits → line_bits line ≡ bits
+line_bits_said line bits h = ap (map (λ d. d - 48)) (sym h.written) ∙ bits_of_digits bits
+
+-- the block of a line that says some bits
+pub line_block_said : (line bits : List ℕ) → Says line bits → 0 < length bits → line_block line ≡ bits ∷ []
+line_block_said line bits h some =
+    let e = line_bits_said line bits h in
+    let full : length (line_bits line) == 0 ≡ false = ap (λ l. length l == 0) e ∙ ne_eqb (length bits) 0 (λ z. omega arith) in
+    cond-false (length (line_bits line) == 0) [] (line_bits line ∷ []) full ∙ ap (λ l. l ∷ []) e
+
+-- the block of a line that says none
+pub line_block_none : (line bits : List ℕ) → Says line bits → length bits ≡ 0 → line_block line ≡ []
+line_block_none line bits h none =
+    let e = line_bits_said line bits h in
+    ap (λ l. cond (length l == 0) [] (l ∷ [])) e ∙ ap (λ n. cond (n == 0) [] (bits ∷ [])) none
+
+-- a digit is no line feed
+digit_goes_on : (b : ℕ) (line rest : List ℕ) → blocks_from line (digit b ∷ rest) ≡ blocks_from (line ++ digit b ∷ []) rest
+digit_goes_on b line rest =
+    elim (b == 0) as (λ v. blocks_from line (cond v 48 49 ∷ rest) ≡ blocks_from (line ++ cond v 48 49 ∷ []) rest) [
+      | true ↦ refl
+      | false ↦ refl
+    ]
+
+-- a line goes on to its line feed
+goes_on : (line block rest : List ℕ) → blocks_from line (map digit block ++ 10 ∷ rest) ≡ line_block (line ++ map digit block) ++ blocks_from [] rest
+goes_on line [] rest = ap (λ l. line_block l ++ blocks_from [] rest) (sym (append-nil line))
+goes_on line (b ∷ block) rest =
+    digit_goes_on b line (map digit block ++ 10 ∷ rest) ∙ goes_on (line ++ digit b ∷ []) block rest
+    ∙ ap (λ l. line_block l ++ blocks_from [] rest) (append_assoc line (digit b ∷ []) (map digit block))
+
+-- a line feed is no mark
+feed : (block : List ℕ) → mark (ends_inside false (map digit block)) 10 ≡ []
+feed block = elim (ends_inside false (map digit block)) as (λ v. mark v 10 ≡ []) [ true ↦ refl | false ↦ refl ]
+
+plain_marks : (block : List ℕ) → marks false (map digit block) ≡ map digit block
+plain_marks block = sym (append-nil (marks false (map digit block))) ∙ ap (λ l. marks false (map digit block) ++ l) (sym (feed block)) ∙ sym (marks_push false (map digit block) 10) ∙ digit_marks block
+
+-- a block's digits are a line that says it
+says_digits : (block : List ℕ) → Bits block → Says (map digit block) block
+says_digits block h = record {
+  binary = h;
+  written = sym (plain_marks block ∙ digits_written block h);
+}
+
+pub all_come_back : AllComeBack
+all_come_back [] h = refl
+all_come_back (block ∷ bs) h =
+    ap (blocks_from []) (append_assoc (map digit block) (10 ∷ []) (flat_map block_line bs))
+    ∙ goes_on [] block (flat_map block_line bs)
+    ∙ (λ i. line_block_said (map digit block) block (says_digits block h.0.1) h.0.0 i ++ all_come_back bs h.1 i)
