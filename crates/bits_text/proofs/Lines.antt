@@ -4,10 +4,11 @@ use Rattle.std.proofs.Common.{◌≡◌, ℕ, zero, suc, ◌+◌, ◌-◌, ◌<�
 use Rattle.std.specs.Prelude.{◌==◌}
 use Rattle.std.specs.List.{flat_map, AllByRecursion}
 use Rattle.std.proofs.lemmas.Bool.{ne_eqb, cond-false}
-use Rattle.bits_text.specs.Texts.{mark, marks, ends_inside, Bits, digit, digits, block_line, Says}
+use Rattle.std.proofs.lemmas.List.{length_push}
+use Rattle.bits_text.specs.Texts.{mark, marks, ends_inside, comment_after, Bits, digit, digits, block_line, Says}
 use Rattle.bits_text.specs.Blocks.{line_bits, line_block, blocks_from}
 use Rattle.bits_text.specs.Laws.{Filled, AllComeBack}
-use Rattle.bits_text.proofs.Pushed.{digits_written, digit_marks, marks_push}
+use Rattle.bits_text.proofs.Pushed.{digits_written, digit_marks, marks_push, ends_push, digits_same}
 
 bits_of_digits : (bits : List ℕ) → map (λ d. d - 48) (digits bits) ≡ bits
 bits_of_digits [] = refl
@@ -65,3 +66,18 @@ all_come_back (block ∷ bs) h =
     ap (blocks_from []) (append_assoc (map digit block) (10 ∷ []) (flat_map block_line bs))
     ∙ goes_on [] block (flat_map block_line bs)
     ∙ (λ i. line_block_said (map digit block) block (says_digits block h.0.1) h.0.0 i ++ all_come_back bs h.1 i)
+
+pub feed_mark : (inside : Bool) → mark inside 10 ≡ []
+feed_mark inside = elim inside as (λ v. mark v 10 ≡ []) [ true ↦ refl | false ↦ refl ]
+
+-- a line feed is no bit
+pub no_bit_in_feed : (line bits : List ℕ) (c b : ℕ) → Says line bits → Says (line ++ c ∷ []) (bits ++ b ∷ []) → c ≡ 10 → ⊥
+no_bit_in_feed line bits c b h more e =
+    let same = more.written ∙ marks_push false line c ∙ ap (λ n. marks false line ++ mark (ends_inside false line) n) e
+    ∙ ap (λ l. marks false line ++ l) (feed_mark (ends_inside false line)) ∙ append-nil (marks false line) ∙ sym h.written in
+    let equal : bits ++ b ∷ [] ≡ bits = digits_same (bits ++ b ∷ []) bits same in
+    omega (arith, ap length equal, length_push bits b)
+
+-- a line begins behind a line feed
+pub feed_ends : (line : List ℕ) (c : ℕ) → c ≡ 10 → ends_inside false (line ++ c ∷ []) ≡ false
+feed_ends line c e = ends_push false line c ∙ ap (comment_after (ends_inside false line)) e

@@ -80,7 +80,7 @@ digit_marks (b ∷ block) =
     let f = m.1 in
     (λ i. e i ++ marks (f i) (map digit block ++ 10 ∷ [])) ∙ ap (λ l. digit b ∷ l) (digit_marks block)
 
-digits_same : (a b : List ℕ) → digits a ≡ digits b → a ≡ b
+pub digits_same : (a b : List ℕ) → digits a ≡ digits b → a ≡ b
 digits_same [] [] e = refl
 digits_same [] (y ∷ b) e = absurd (omega (arith, ap length e))
 digits_same (x ∷ a) [] e = absurd (omega (arith, ap length e))

@@ -30,7 +30,7 @@ fn show_rows<'a>(rt: &HostRuntime) -> Result<(), Stop<'a>> {
 fn show_plan<'a>(rt: &HostRuntime, choice: Choice) -> Result<(), Stop<'a>> {
     let plan = choice.row.plan(rt.alloc(), choice.constraint)?;
     let mut output = BufWriter::new(rt.alloc(), writer(rt))?;
-    write_plan(&mut output, choice, &plan)?;
+    write_plan(&mut output, choice.row, &plan)?;
     Ok(output.flush()?)
 }
 
@@ -75,8 +75,19 @@ fn send_all<'a, C: Write>(
 ) -> Result<(), Stop<'a>> {
     let mut output = BufWriter::new(rt.alloc(), writer(rt))?;
     match settings.drawing {
-        Some(drawing) => send_drawn(rt.alloc(), plan, table, drawing, &mut output, copy)?,
-        None => send_text(rt.alloc(), plan, table, rt.stdin(), &mut output, copy)?,
+        Some(drawing) => send_drawn(
+            rt.alloc(),
+            plan,
+            table,
+            drawing.blocks,
+            drawing.seed,
+            &mut output,
+            copy,
+        )?,
+        None => {
+            let input = BufReader::new(rt.alloc(), rt.stdin())?;
+            send_text(rt.alloc(), plan, table, input, &mut output, copy)?
+        }
     }
     Ok(output.flush()?)
 }

@@ -26,7 +26,7 @@ left remaining b = if b.ended then Some [] else bytes_remaining remaining b.byte
 
 -- how many steps are left at most
 abbrev pub steps_left : {R : Type 0} → Blocks R → ℕ
-steps_left b = bytes_left b.bytes + cond b.ended 0 1
+steps_left b = cond b.ended 0 (1 + bytes_left b.bytes)
 
 -- these bytes of the line in hand have come, and these of the text are still to come
 pub record Stands {R : Type 0} (remaining : R → Option (List ℕ)) (b : Blocks R) (line xs : List ℕ) : Type 0 where

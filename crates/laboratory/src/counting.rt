@@ -1,5 +1,5 @@
 // The errors of shown blocks against sent ones, read side by side.
-ghost use Rattle.std.specs.Prelude.{◌≡◌, ℕ, ◌<◌, List, [], false, Some, IfOk};
+ghost use Rattle.std.specs.Prelude.{◌≡◌, ℕ, ◌<◌, ◌&&◌, ◌==◌, not, List, [], length, false, Some, IfOk};
 ghost use Rattle.bits_text.specs.Blocks.{blocks};
 ghost use Rattle.comparison.specs.Comparing.{nothing, compared};
 ghost use Rattle.laboratory.specs.Counting.{Holds, LineTaken, left, steps_left, Stands, Stepped, Advanced};
@@ -28,6 +28,13 @@ impl BlockLine {
         self.bits.clear();
     }
 
+    // Whether a byte ends a line that has bits.
+    fn ends_block(&self, byte: u8) -> bool
+        ensures { result ≡ (byte == 10 && not (length self.now.bits.items == 0)) }
+    {
+        byte == b'\n' && !self.bits.is_empty()
+    }
+
     // Goes past a byte. True where it ends a line that has bits.
     fn take(&mut self, byte: u8) -> Result<bool, Trouble>
         ensures { (line : List ℕ) → Holds self.old line → LineTaken line byte self.new result }
@@ -37,7 +44,7 @@ impl BlockLine {
                 self.bits.push(bit)?;
                 Ok(false)
             }
-            Ok(None) => Ok(byte == b'\n' && !self.bits.is_empty()),
+            Ok(None) => Ok(self.ends_block(byte)),
             Err(stray) => Err(Trouble::Bits {
                 text: self.name,
                 stray,

@@ -1,5 +1,4 @@
 // The rows of the standard as lines of text.
-use orders::Choice;
 use plan::Plan;
 use rows::{Entry, Row};
 use std::io;
@@ -60,18 +59,18 @@ fn write_row<W: Write>(output: &mut W, row: Row, entry: Entry) -> io::Result<()>
 }
 
 // One row, a name and its numbers to a line.
-pub fn write_plan<W: Write>(output: &mut W, choice: Choice, plan: &Plan) -> io::Result<()> {
+pub fn write_plan<W: Write>(output: &mut W, row: Row, plan: &Plan) -> io::Result<()> {
     let Row {
         bandwidth,
         waveform,
         interleaver,
-    } = choice.row;
+    } = row;
     let constraint = plan.parts().constraint;
     write!(
         output,
         "bandwidth {bandwidth}\nwaveform {waveform}\ninterleaver {interleaver}\nconstraint {constraint}\n"
     )?;
-    if let Some(entry) = choice.row.entry() {
+    if let Some(entry) = row.entry() {
         let rate = entry.rate;
         write!(output, "rate {rate}\n")?;
     }

@@ -1,26 +1,40 @@
 // Blocks of bits, sent as lines of on-air indices.
+ghost use Rattle.std.specs.Prelude.{◌≡◌, IfOk, OnOk, vec_len};
+ghost use Rattle.std.specs.Io.KnownBytes.{Appends};
+ghost use Rattle.air_text.specs.Lines.{air_text};
+ghost use Rattle.bits_text.specs.Texts.{block_line};
+ghost use Rattle.code.specs.Numbers.{bits_of};
+ghost use Rattle.plan.specs.Plans.{plan_scheme};
+ghost use Rattle.sender.specs.Senders.{sender_scheme};
+ghost use Rattle.sender.specs.Transmission.{symbols, transmission};
+ghost use Rattle.laboratory.specs.Sending.{count_on, on_air, bit_lines, drawn_blocks};
+
 use crate::trouble::Trouble;
 use air_text::AirText;
 use bits_text::{BitsReader, BlockText};
 use channel::Generator;
-use orders::Drawing;
 use plan::Plan;
 use scrambler::Scrambler;
 use sender::Sender;
 use std::alloc::Global;
-use std::io::{BufReader, Read, Write};
+use std::io::{Read, Write};
 
-// A sender with its output. What is kept is one block, and what is sent for it.
+// A sender with its output. What is kept is what is sent for one block.
 #[derive(Drop)]
 struct Sending<'p, S: Scrambler> {
     sender: Sender<'p, S>,
     indices: Vec<u8>,
     // how many blocks have been sent
     blocks: u64,
+    ghost room: { vec_len indices ≡ symbols (sender_scheme sender) },
 }
 
 impl<'p, S: Scrambler + Drop> Sending<'p, S> {
-    fn new(heap: Global, plan: &'p Plan, scrambler: S) -> Result<Sending<'p, S>, Trouble> {
+    fn new(heap: Global, plan: &'p Plan, scrambler: S) -> Result<Sending<'p, S>, Trouble>
+        ensures scheme { IfOk result (λ x. sender_scheme x.sender ≡ plan_scheme plan.now) }
+        ensures meaning { IfOk result (λ x. S.meaning x.sender.scrambler ≡ S.meaning scrambler) }
+        ensures none { IfOk result (λ x. x.blocks ≡ 0) }
+    {
         let sender = Sender::new(heap, plan, scrambler)?;
         let indices = vec![in heap; 0; plan.symbols()]?;
         Ok(Sending {
@@ -36,7 +50,13 @@ impl<'p, S: Scrambler + Drop> Sending<'p, S> {
         block: &[u8],
         output: &mut W,
         copy: &mut C,
-    ) -> Result<(), Trouble> {
+    ) -> Result<(), Trouble>
+        ensures scheme { sender_scheme self.new.sender ≡ sender_scheme self.old.sender }
+        ensures meaning { S.meaning self.new.sender.scrambler ≡ S.meaning self.old.sender.scrambler }
+        ensures number { OnOk result (self.new.blocks ≡ count_on self.old.blocks) }
+        ensures air { OnOk result (Appends (W.contents output.old) (W.contents output.new) (air_text (count_on self.old.blocks) (transmission (sender_scheme self.old.sender) (S.meaning self.old.sender.scrambler) (bits_of block.now)))) }
+        ensures bits { OnOk result (Appends (C.contents copy.old) (C.contents copy.new) (block_line block.now)) }
+    {
         self.sender.send(block, self.indices.as_mut_slice())?;
         self.blocks = self.blocks.saturating_add(1);
         let text = AirText {
@@ -71,7 +91,7 @@ pub fn send_text<S: Scrambler + Drop, R: Read + Drop, W: Write, C: Write>(
     let length = plan.parts().block_length;
     let mut reader = BitsReader::new();
     let mut block = Vec::with_capacity(heap, length)?;
-    for byte in BufReader::new(heap, text)?.bytes() {
+    for byte in text.bytes() {
         if let Some(bit) = taken(&mut reader, byte?)? {
             block.push(bit)?;
             if block.len() == length {
@@ -95,14 +115,18 @@ pub fn send_drawn<S: Scrambler + Drop, W: Write, C: Write>(
     heap: Global,
     plan: &Plan,
     scrambler: S,
-    drawing: Drawing,
+    blocks: u64,
+    seed: u64,
     output: &mut W,
     copy: &mut C,
-) -> Result<(), Trouble> {
+) -> Result<(), Trouble>
+    ensures air { OnOk result (Appends (W.contents output.old) (W.contents output.new) (on_air (plan_scheme plan.now) (S.meaning scrambler) (drawn_blocks (plan_scheme plan.now).block seed blocks))) }
+    ensures bits { OnOk result (Appends (C.contents copy.old) (C.contents copy.new) (bit_lines (drawn_blocks (plan_scheme plan.now).block seed blocks))) }
+{
     let mut sending = Sending::new(heap, plan, scrambler)?;
     let mut block = vec![in heap; 0; plan.parts().block_length]?;
-    let mut generator = Generator::new(drawing.seed);
-    for _ in 0..drawing.blocks {
+    let mut generator = Generator::new(seed);
+    for _sent in 0..blocks {
         generator.draw_bits(block.as_mut_slice());
         sending.send(block.as_slice(), output, copy)?;
     }

@@ -1,11 +1,15 @@
 // Numbers among the words.
-use crate::slip::Slip;
-use std::str::FromStr;
+ghost use Rattle.std.specs.Prelude.{◌≡◌, ℕ, MatchResult};
+ghost use Rattle.orders.specs.Words.{Writes};
 
-// The number that a word writes, of the type that is asked for.
-pub(crate) fn number<T: FromStr>(word: &str, name: &'static str) -> Result<T, Slip>
-where
-    T::Err: Drop,
+use crate::slip::Slip;
+
+// The number that a word writes. What it is called comes into the slip.
+pub(crate) fn number(word: &str, name: &'static str) -> Result<u64, Slip>
+    ensures { MatchResult result (λ n. Writes word.now n) (λ _. (n : ℕ) → Writes word.now n → ⊥) }
 {
-    word.parse::<T>().map_err(|_| Slip::Number(name))
+    match word.parse::<u64>() {
+        Ok(n) => Ok(n),
+        Err(_) => Err(Slip::Number(name)),
+    }
 }

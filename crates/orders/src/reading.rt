@@ -1,4 +1,7 @@
 // The words of a command line, read as an order.
+ghost use Rattle.std.specs.Prelude.{◌≡◌, ℕ, List, ◌∷◌, IfOk};
+ghost use Rattle.orders.specs.Words.{Names, first_word, Follows, bytes_of, Orders};
+
 use crate::numbers::number;
 use crate::order::{Choice, Order};
 use crate::settings::Settings;
@@ -11,14 +14,20 @@ fn choice_of(
     waveform: &str,
     interleaver: &str,
     constraint: &str,
-) -> Result<Choice, Slip> {
+) -> Result<Choice, Slip>
+    ensures { IfOk result (λ c. Names bandwidth.now waveform.now interleaver.now constraint.now c) }
+{
+    let bandwidth = number(bandwidth, "bandwidth")? as usize;
+    let waveform = number(waveform, "waveform")? as usize;
+    let interleaver = number(interleaver, "interleaver")? as usize;
+    let constraint = number(constraint, "constraint length")? as usize;
     Ok(Choice {
         row: Row {
-            bandwidth: number(bandwidth, "bandwidth")?,
-            waveform: number(waveform, "waveform")?,
-            interleaver: number(interleaver, "interleaver")?,
+            bandwidth,
+            waveform,
+            interleaver,
         },
-        constraint: number(constraint, "constraint length")?,
+        constraint,
     })
 }
 

@@ -1,25 +1,31 @@
-use Rattle.std.proofs.Common.{rules, ◌≡◌, ℕ, ◌<◌, List, [], false, Some, IfOk, ◌+◌, ◌-◌, ◌*◌, ◌≤◌, length, ◌/◌, ◌%◌, Bool, true, nat_eq, nat_lt, ◌∷◌, ◌++◌, slice_index_or, slice_set, bit_and, bit_or, Fits, w8, w32, w64, Bor, MutBor}
-use Rattle.bits_text.specs.Blocks.{blocks}
-use Rattle.comparison.specs.Comparing.{nothing, compared}
-use Rattle.laboratory.specs.Counting.{Holds, LineTaken, left, steps_left, Stands, Stepped, Advanced}
+use Rattle.std.proofs.Common.{◌≡◌, [], true, false, Ok, subst, sym, refl, ap, ◌∙◌, length}
+use Rattle.std.specs.Prelude.{◌==◌}
+use Rattle.laboratory.specs.Counting.{Stepped}
+use Rattle.laboratory.proofs.Lines.{advanced_end}
 use Rattle.laboratory.proofs.counting.Blocks.advance.Goals as goal
 
--- src/counting.rt:93:9
 pub loop-self-init : goal.loop-self-init
-loop-self-init g c = ?
+loop-self-init g c = λ xs e. ([], xs, record { holds = c.begin.ensures; rest = e }, refl)
 
--- src/counting.rt:95:17
 pub returns-then-branch : goal.returns-then-branch
-returns-then-branch g c = ?
+returns-then-branch g c = λ xs e.
+    let i = c.loop-self.invariant xs e in
+    let s : Stepped g.R.Read.remaining i.0 i.1 c.step.new.self (Ok true) =
+    subst (Stepped g.R.Read.remaining i.0 i.1 c.step.new.self) (c.in_ok-step.was ∙ ap Ok c.if-branch.true) (c.step.ensures.known i.0 i.1 i.2) in
+    (s.0, s.1, i.3 ∙ s.2)
 
--- src/counting.rt:93:9
 pub loop-self-smaller : goal.loop-self-smaller
-loop-self-smaller g c = ?
+loop-self-smaller g c = c.in_ok-step.ensures.fewer
 
--- src/counting.rt:93:9
 pub loop-self-preserved : goal.loop-self-preserved
-loop-self-preserved g c = ?
+loop-self-preserved g c = λ xs e.
+    let i = c.loop-self.invariant xs e in
+    let s : Stepped g.R.Read.remaining i.0 i.1 c.step.new.self (Ok false) =
+    subst (Stepped g.R.Read.remaining i.0 i.1 c.step.new.self) (c.in_ok-step.was ∙ ap Ok c.if-branch.false) (c.step.ensures.known i.0 i.1 i.2) in
+    (s.0, s.1, s.2, i.3 ∙ s.3)
 
--- src/counting.rt:89:5
 pub returns : goal.returns
-returns g c = ?
+returns g c = λ xs e.
+    let i = c.loop-self.invariant xs e in
+    advanced_end g.R.Read.remaining c.loop-self.self i.0 xs i.1 c.is_empty.result i.2 c.loop-self-test.false i.3
+    (c.is_empty.ensures ∙ ap (λ n. n == 0) (c.loop-self.self.line.bits.ok.0))
