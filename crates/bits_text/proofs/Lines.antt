@@ -1,13 +1,13 @@
 -- Lines and their blocks.
 -- Assumes nothing.
-use Rattle.std.proofs.Common.{◌≡◌, ℕ, zero, suc, ◌+◌, ◌-◌, ◌<◌, Bool, true, false, cond, List, [], ◌∷◌, ◌++◌, map, length, sym, refl, ap, ◌∙◌, append_assoc, append-nil, arith}
+use Rattle.std.proofs.Common.{◌≡◌, ℕ, ◌+◌, ◌-◌, ◌<◌, Bool, true, false, cond, List, [], ◌∷◌, ◌++◌, map, length, sym, refl, ap, ◌∙◌, append_assoc, append-nil, arith}
 use Rattle.std.specs.Prelude.{◌==◌}
-use Rattle.std.specs.List.{flat_map, AllByRecursion}
+use Rattle.std.specs.List.{flat_map}
 use Rattle.std.proofs.lemmas.Bool.{ne_eqb, cond-false}
 use Rattle.std.proofs.lemmas.List.{length_push}
 use Rattle.bits_text.specs.Texts.{mark, marks, ends_inside, comment_after, Bits, digit, digits, block_line, Says}
 use Rattle.bits_text.specs.Blocks.{line_bits, line_block, blocks_from}
-use Rattle.bits_text.specs.Laws.{Filled, AllComeBack}
+use Rattle.bits_text.specs.Laws.{AllComeBack}
 use Rattle.bits_text.proofs.Pushed.{digits_written, digit_marks, marks_push, ends_push, digits_same}
 
 bits_of_digits : (bits : List ℕ) → map (λ d. d - 48) (digits bits) ≡ bits

@@ -1,12 +1,12 @@
 -- A text of bits with one byte more.
 -- Assumes nothing.
-use Rattle.std.proofs.Common.{◌≡◌, ℕ, zero, suc, ◌+◌, ◌-◌, ◌^◌, ◌<◌, ◌≤◌, min, Bool, true, false, cond, List, [], ◌∷◌, ◌++◌, map, length, sym, refl, ap, ◌∙◌, append_assoc, append-nil, arith}
+use Rattle.std.proofs.Common.{◌≡◌, ℕ, zero, suc, ◌+◌, ◌-◌, ◌^◌, ◌<◌, min, Bool, true, false, cond, List, [], ◌∷◌, ◌++◌, map, length, sym, refl, ap, ◌∙◌, append_assoc, append-nil, arith}
 use Rattle.std.specs.Prelude.{◌==◌, ◌||◌}
 use Rattle.std.proofs.lemmas.Bool.Decides.{nat_tests}
 use Rattle.std.proofs.lemmas.Bool.{ne_eqb, cond-false, true≢false}
 use Rattle.std.proofs.ByRecursion.{All-push}
 use Rattle.std.proofs.lemmas.List.{map-append}
-use Rattle.bits_text.specs.Texts.{ends_inside, comment_after, mark, marks, Bits, digit, digits, block_line, Says}
+use Rattle.bits_text.specs.Texts.{ends_inside, comment_after, mark, marks, Bits, digit, digits, Says}
 use Rattle.bits_text.specs.Laws.{ComesBack}
 use Rattle.bits_text.specs.Readings.{At, line_after}
 use Rattle.bits_text.specs.declared.reader.BitsReader.{BitsReader}

@@ -1,6 +1,6 @@
 -- The blocks of a text: the bits of each line that has any.
 -- Assumes nothing.
-use Rattle.std.specs.Prelude.{ℕ, ◌-◌, Bool, cond, false, List, [], ◌∷◌, ◌++◌, map, length, ◌==◌}
+use Rattle.std.specs.Prelude.{ℕ, ◌-◌, cond, false, List, [], ◌∷◌, ◌++◌, map, length, ◌==◌}
 use Rattle.bits_text.specs.Texts.{marks}
 
 -- the bits of a line's digits

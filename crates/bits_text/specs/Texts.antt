@@ -1,6 +1,6 @@
 -- Bits as text: digits, white space and comments.
 -- Assumes nothing.
-use Rattle.std.specs.Prelude.{◌≡◌, ℕ, ◌+◌, Bool, true, false, cond, ◌||◌, ◌&&◌, ◌<◌, List, [], ◌∷◌, ◌++◌, map, ◌==◌, nat_le}
+use Rattle.std.specs.Prelude.{◌≡◌, ℕ, ◌+◌, Bool, false, cond, ◌||◌, ◌&&◌, ◌<◌, List, [], ◌∷◌, ◌++◌, map, ◌==◌, nat_le}
 use Rattle.std.specs.List.{AllByRecursion}
 
 -- a blank, or one of the codes 9 to 13: tab, line feed and the like

@@ -4,14 +4,15 @@ use Rattle.std.proofs.Common.{◌≡◌, ℕ, zero, suc, ◌+◌, ◌*◌, List,
 use Rattle.std.specs.List.{flat_map}
 use Rattle.std.specs.Io.KnownBytes.{Appends}
 use Rattle.std.proofs.lemmas.Grind.{flat_map-append}
+use Rattle.std.proofs.lemmas.List.FromFn.{length-map-range_with_len}
 use Rattle.air_text.specs.Lines.{air_text}
 use Rattle.bits_text.specs.Texts.{block_line}
-use Rattle.channel.specs.Drawing.{stepped, state_after, drawn_bits}
+use Rattle.channel.specs.Drawing.{stepped, state_after, drawn_bit, drawn_bits}
 use Rattle.code.specs.Numbers.{bits_of}
 use Rattle.plan.specs.Scheme.{Scheme}
 use Rattle.scrambler.specs.Meaning.{Meaning}
 use Rattle.sender.specs.Transmission.{transmission}
-use Rattle.laboratory.specs.Sending.{count_on, number_after, air_from, on_air, bit_lines, drawn_blocks}
+use Rattle.laboratory.specs.Sending.{count_on, number_after, air_from, on_air, bit_lines, drawn_blocks, Written}
 
 appends_both : (a b c : Option (List ℕ)) (xs ys : List ℕ) → Appends a b xs → Appends b c ys → Appends a c (xs ++ ys)
 appends_both None b c xs ys h k = tt
@@ -42,12 +43,6 @@ state_sum : (a b seed : ℕ) → state_after a (state_after b seed) ≡ state_af
 state_sum zero b seed = let e : b ≡ 0 + b = omega arith in ap (λ n. state_after n seed) e
 state_sum (suc a) b seed = let e : suc (a + b) ≡ suc a + b = omega arith in ap stepped (state_sum a b seed) ∙ ap (λ n. state_after n seed) e
 
--- some blocks have been sent: their last number, and what has been written
-pub record Written (s : Scheme) (m : Meaning) (bs : List (List ℕ)) (number : ℕ) (w v c d : Option (List ℕ)) : Type 0 where
-  pub last : number ≡ number_after 0 bs
-  pub air : Appends w v (on_air s m bs)
-  pub bits : Appends c d (bit_lines bs)
-
 pub written_none : (s : Scheme) (m : Meaning) (number : ℕ) (w c : Option (List ℕ)) → number ≡ 0 → Written s m [] number w w c c
 written_none s m number w c e = record { last = e; air = appends_none w; bits = appends_none c }
 
@@ -68,3 +63,6 @@ drawn_more bits seed n = let e : suc n ≡ n + 1 = omega arith in ap (drawn_bloc
 
 pub state_more : (bits seed n : ℕ) → state_after bits (state_after (n * bits) seed) ≡ state_after ((n + 1) * bits) seed
 state_more bits seed n = let e : bits + n * bits ≡ (n + 1) * bits = omega arith in state_sum bits (n * bits) seed ∙ ap (λ k. state_after k seed) e
+
+pub drawn_long : (state n : ℕ) → length (drawn_bits state n) ≡ n
+drawn_long state n = length-map-range_with_len (drawn_bit state) 0 n

@@ -1,7 +1,8 @@
 -- Blocks of bits as lines on the air.
 -- Assumes nothing.
-use Rattle.std.specs.Prelude.{◌≡◌, ℕ, zero, suc, ◌+◌, ◌-◌, ◌*◌, ◌^◌, min, List, [], ◌∷◌, ◌++◌, length}
+use Rattle.std.specs.Prelude.{◌≡◌, ℕ, zero, suc, ◌+◌, ◌-◌, ◌*◌, ◌^◌, min, List, [], ◌∷◌, ◌++◌, length, Option}
 use Rattle.std.specs.List.{flat_map, AllByRecursion}
+use Rattle.std.specs.Io.KnownBytes.{Appends}
 use Rattle.air_text.specs.Lines.{air_text}
 use Rattle.bits_text.specs.Texts.{Says, block_line}
 use Rattle.channel.specs.Drawing.{state_after, drawn_bits}
@@ -41,3 +42,9 @@ drawn_blocks bits seed (suc n) = drawn_blocks bits seed n ++ (drawn_bits (state_
 pub record Cut (bits : ℕ) (text : List ℕ) (bs : List (List ℕ)) : Type 0 where
   pub long : AllByRecursion (λ b. length b ≡ bits) bs
   pub said : Says text (flat_map (λ b. b) bs)
+
+-- some blocks have been sent: their last number, and what has been written
+pub record Written (s : Scheme) (m : Meaning) (bs : List (List ℕ)) (number : ℕ) (w v c d : Option (List ℕ)) : Type 0 where
+  pub last : number ≡ number_after 0 bs
+  pub air : Appends w v (on_air s m bs)
+  pub bits : Appends c d (bit_lines bs)

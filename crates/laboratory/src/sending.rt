@@ -11,17 +11,17 @@ ghost use Rattle.laboratory.specs.Sending.{count_on, on_air, bit_lines, drawn_bl
 
 use crate::trouble::Trouble;
 use air_text::AirText;
-use bits_text::{BitsReader, BlockText};
+use bits_text::BlockText;
 use channel::Generator;
 use plan::Plan;
 use scrambler::Scrambler;
 use sender::Sender;
 use std::alloc::Global;
-use std::io::{Read, Write};
+use std::io::Write;
 
 // A sender with its output. What is kept is what is sent for one block.
 #[derive(Drop)]
-struct Sending<'p, S: Scrambler> {
+pub(crate) struct Sending<'p, S: Scrambler> {
     sender: Sender<'p, S>,
     indices: Vec<u8>,
     // how many blocks have been sent
@@ -30,7 +30,7 @@ struct Sending<'p, S: Scrambler> {
 }
 
 impl<'p, S: Scrambler + Drop> Sending<'p, S> {
-    fn new(heap: Global, plan: &'p Plan, scrambler: S) -> Result<Sending<'p, S>, Trouble>
+    pub(crate) fn new(heap: Global, plan: &'p Plan, scrambler: S) -> Result<Sending<'p, S>, Trouble>
         ensures scheme { IfOk result (λ x. sender_scheme x.sender ≡ plan_scheme plan.now) }
         ensures meaning { IfOk result (λ x. S.meaning x.sender.scrambler ≡ S.meaning scrambler) }
         ensures none { IfOk result (λ x. x.blocks ≡ 0) }
@@ -45,7 +45,7 @@ impl<'p, S: Scrambler + Drop> Sending<'p, S> {
     }
 
     // Sends a block, and writes its bits to the copy.
-    fn send<W: Write, C: Write>(
+    pub(crate) fn send<W: Write, C: Write>(
         &mut self,
         block: &[u8],
         output: &mut W,
@@ -67,46 +67,6 @@ impl<'p, S: Scrambler + Drop> Sending<'p, S> {
         let line = BlockText(block);
         write!(copy, "{line}")?;
         Ok(())
-    }
-}
-
-// Goes past a byte of the input.
-fn taken(reader: &mut BitsReader, byte: u8) -> Result<Option<u8>, Trouble> {
-    reader.take(byte).map_err(|stray| Trouble::Bits {
-        text: "the input",
-        stray,
-    })
-}
-
-// Sends each block of a text of bits, and writes it to the copy.
-pub fn send_text<S: Scrambler + Drop, R: Read + Drop, W: Write, C: Write>(
-    heap: Global,
-    plan: &Plan,
-    scrambler: S,
-    text: R,
-    output: &mut W,
-    copy: &mut C,
-) -> Result<(), Trouble> {
-    let mut sending = Sending::new(heap, plan, scrambler)?;
-    let length = plan.parts().block_length;
-    let mut reader = BitsReader::new();
-    let mut block = Vec::with_capacity(heap, length)?;
-    for byte in text.bytes() {
-        if let Some(bit) = taken(&mut reader, byte?)? {
-            block.push(bit)?;
-            if block.len() == length {
-                sending.send(block.as_slice(), output, copy)?;
-                block.clear();
-            }
-        }
-    }
-    if block.is_empty() {
-        Ok(())
-    } else {
-        Err(Trouble::Unfinished {
-            bits: block.len(),
-            length,
-        })
     }
 }
 

@@ -1,4 +1,4 @@
-use Rattle.std.proofs.Common.{◌≡◌, cond, [], ◌∷◌, ap, sym, refl, ◌∙◌}
+use Rattle.std.proofs.Common.{cond, [], ◌∷◌, ap, sym, refl, ◌∙◌}
 use Rattle.bits_text.specs.Texts.{mark}
 use Rattle.bits_text.proofs.Pushed.{says_same, says_none, says_digit}
 use Rattle.bits_text.proofs.reader.BitsReader.take.Goals as goal
