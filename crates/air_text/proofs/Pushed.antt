@@ -1,6 +1,6 @@
 -- The lines of one place more.
 -- Assumes nothing.
-use Rattle.std.proofs.Common.{◌≡◌, ℕ, ◌+◌, ◌<◌, min, List, [], ◌∷◌, ◌++◌, length, take, get_or, sym, refl, ap, ◌∙◌, append_assoc, append-nil, add-zero, length-take, arith}
+use Rattle.std.proofs.Common.{◌≡◌, ℕ, ◌+◌, ◌<◌, List, [], ◌∷◌, ◌++◌, length, take, get_or, sym, ap, ◌∙◌, append_assoc, append-nil, add-zero, length-take, arith}
 use Rattle.std.proofs.lemmas.List.{take_more}
 use Rattle.air_text.specs.Lines.{place_line, place_lines}
 
