@@ -1,8 +1,10 @@
 // What each order does with the files and the streams.
 use crate::stop::Stop;
 use laboratory::{count, register_table, send_drawn, send_text, table_of, write_plan, write_rows};
-use orders::{Choice, Order, Settings};
+use orders::{Choice, Order, ScoreKind, Settings};
 use plan::Plan;
+use reception::{Reception, WrittenKind};
+use score::{CountFirst, Total, Worst};
 use scrambler::Table;
 use std::fs;
 use std::fs::File;
@@ -94,8 +96,32 @@ fn send_all<'a, C: Write>(
 
 fn receive<'a>(rt: &HostRuntime, choice: Choice, settings: Settings<'a>) -> Result<(), Stop<'a>> {
     let plan = choice.row.plan(rt.alloc(), choice.constraint)?;
-    let _table = scrambler(rt, &plan, settings)?;
-    Ok(())
+    let table = scrambler(rt, &plan, settings)?;
+    match settings.score {
+        ScoreKind::Total => receive_by(rt, plan, table, Total),
+        ScoreKind::Worst => receive_by(rt, plan, table, Worst),
+        ScoreKind::CountFirst => receive_by(rt, plan, table, CountFirst),
+    }
+}
+
+// Answers the lines of the input by a kind of score.
+fn receive_by<'a, K: WrittenKind + Drop>(
+    rt: &HostRuntime,
+    plan: Plan,
+    table: Table,
+    kind: K,
+) -> Result<(), Stop<'a>> {
+    let mut reception = Reception::new(rt.alloc(), plan, table, kind)?;
+    let mut output = BufWriter::new(rt.alloc(), writer(rt))?;
+    let mut progress = rt.stderr();
+    reception::receive(
+        rt.alloc(),
+        &mut reception,
+        rt.stdin(),
+        &mut output,
+        &mut progress,
+    )?;
+    Ok(output.flush()?)
 }
 
 fn show_count<'a>(rt: &HostRuntime, sent: &'a str, shown: &'a str) -> Result<(), Stop<'a>> {

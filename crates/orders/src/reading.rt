@@ -1,5 +1,5 @@
 // The words of a command line, read as an order.
-ghost use Rattle.std.specs.Prelude.{◌≡◌, ℕ, List, ◌∷◌, IfOk};
+ghost use Rattle.std.specs.Prelude.{◌≡◌, ℕ, List, ◌∷◌, codes, IfOk};
 ghost use Rattle.orders.specs.Words.{Names, first_word, Follows, bytes_of, Orders};
 
 use crate::numbers::number;
@@ -32,7 +32,9 @@ fn choice_of(
 }
 
 // The four words of a row and its code, and the words behind them.
-fn split_choice(words: &[String]) -> Result<(Choice, &[String]), Slip> {
+fn split_choice(words: &[String]) -> Result<(Choice, &[String]), Slip>
+    ensures { IfOk result (λ r. (a b i k : List ℕ) × Names a b i k r.0 × (bytes_of words.now ≡ a ∷ b ∷ i ∷ k ∷ bytes_of r.1.now)) }
+{
     let [bandwidth, waveform, interleaver, constraint, rest @ ..] = words else {
         return Err(Slip::Count);
     };
@@ -45,33 +47,48 @@ fn split_choice(words: &[String]) -> Result<(Choice, &[String]), Slip> {
     Ok((choice, rest))
 }
 
-fn rows_order<'a>(words: &'a [String]) -> Result<Order<'a>, Slip> {
+fn rows_order<'a>(words: &'a [String]) -> Result<Order<'a>, Slip>
+    ensures word { IfOk result (λ o. first_word o ≡ codes "rows") }
+    ensures follows { IfOk result (λ o. Follows o (bytes_of words.now)) }
+{
     match words {
         [] => Ok(Order::Rows),
         _ => Err(Slip::Count),
     }
 }
 
-fn plan_order<'a>(words: &'a [String]) -> Result<Order<'a>, Slip> {
+fn plan_order<'a>(words: &'a [String]) -> Result<Order<'a>, Slip>
+    ensures word { IfOk result (λ o. first_word o ≡ codes "plan") }
+    ensures follows { IfOk result (λ o. Follows o (bytes_of words.now)) }
+{
     match split_choice(words)? {
         (choice, []) => Ok(Order::Plan(choice)),
         _ => Err(Slip::Count),
     }
 }
 
-fn send_order<'a>(words: &'a [String]) -> Result<Order<'a>, Slip> {
+fn send_order<'a>(words: &'a [String]) -> Result<Order<'a>, Slip>
+    ensures word { IfOk result (λ o. first_word o ≡ codes "send") }
+    ensures follows { IfOk result (λ o. Follows o (bytes_of words.now)) }
+{
     let (choice, rest) = split_choice(words)?;
     let settings = Settings::to_send(rest)?;
     Ok(Order::Send { choice, settings })
 }
 
-fn receive_order<'a>(words: &'a [String]) -> Result<Order<'a>, Slip> {
+fn receive_order<'a>(words: &'a [String]) -> Result<Order<'a>, Slip>
+    ensures word { IfOk result (λ o. first_word o ≡ codes "receive") }
+    ensures follows { IfOk result (λ o. Follows o (bytes_of words.now)) }
+{
     let (choice, rest) = split_choice(words)?;
     let settings = Settings::to_receive(rest)?;
     Ok(Order::Receive { choice, settings })
 }
 
-fn count_order<'a>(words: &'a [String]) -> Result<Order<'a>, Slip> {
+fn count_order<'a>(words: &'a [String]) -> Result<Order<'a>, Slip>
+    ensures word { IfOk result (λ o. first_word o ≡ codes "count") }
+    ensures follows { IfOk result (λ o. Follows o (bytes_of words.now)) }
+{
     match words {
         [sent, shown] => Ok(Order::Count {
             sent: sent.as_str(),
@@ -82,7 +99,9 @@ fn count_order<'a>(words: &'a [String]) -> Result<Order<'a>, Slip> {
 }
 
 // The order that these words give: a word, and what belongs to it.
-pub fn order_of<'a>(words: &'a [String]) -> Result<Order<'a>, Slip> {
+pub fn order_of<'a>(words: &'a [String]) -> Result<Order<'a>, Slip>
+    ensures { IfOk result (λ o. Orders (bytes_of words.now) o) }
+{
     let [word, rest @ ..] = words else {
         return Err(Slip::Word);
     };

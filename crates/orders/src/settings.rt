@@ -1,4 +1,8 @@
 // What the words behind a row set.
+ghost use Rattle.std.specs.Prelude.{◌≡◌, MatchResult};
+ghost use Rattle.orders.specs.Words.{score_word};
+ghost use Rattle.orders.specs.declared.order.ScoreKind.{ScoreKind as TheScoreKind};
+
 use crate::numbers::number;
 use crate::order::{Drawing, ScoreKind};
 use crate::slip::Slip;
@@ -91,7 +95,9 @@ impl<'a> Settings<'a> {
 }
 
 // The kind of score of this name.
-fn score_kind(word: &str) -> Result<ScoreKind, Slip> {
+fn score_kind(word: &str) -> Result<ScoreKind, Slip>
+    ensures { MatchResult result (λ kind. score_word kind ≡ word.now) (λ _. (kind : TheScoreKind) → score_word kind ≡ word.now → ⊥) }
+{
     match word {
         "total" => Ok(ScoreKind::Total),
         "worst" => Ok(ScoreKind::Worst),
