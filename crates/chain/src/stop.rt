@@ -1,5 +1,7 @@
 // Why the program stops, and how that is said.
+use entries::Question;
 use laboratory::Trouble;
+use lines::LineFault;
 use orders::{Slip, USAGE};
 use plan::ChainFault;
 use std::{fmt, io};
@@ -19,6 +21,11 @@ impl fmt::Display for Stop<'_> {
         match self {
             Stop::Words(slip) => write!(f, "{slip}\n{USAGE}"),
             Stop::File { name, error } => write!(f, "{name}: {error}\n{USAGE}"),
+            Stop::Work(Trouble::Chain(fault)) => {
+                let number = u8::from(*fault);
+                let question = Question(LineFault::from(*fault));
+                write!(f, "refused {number}: {question}")
+            }
             Stop::Work(trouble) => write!(f, "{trouble}"),
         }
     }
