@@ -15,12 +15,13 @@ const DRAWN: &'static str = "sent.txt";
 
 pub(crate) fn obey<'a>(rt: &HostRuntime, order: Order<'a>) -> Result<(), Stop<'a>> {
     match order {
-        Order::Rows => show_rows(rt),
-        Order::Plan(choice) => show_plan(rt, choice),
-        Order::Send { choice, settings } => send(rt, choice, settings),
-        Order::Receive { choice, settings } => receive(rt, choice, settings),
-        Order::Count { sent, shown } => show_count(rt, sent, shown),
+        Order::Rows => show_rows(rt)?,
+        Order::Plan(choice) => show_plan(rt, choice)?,
+        Order::Send { choice, settings } => send(rt, choice, settings)?,
+        Order::Receive { choice, settings } => receive(rt, choice, settings)?,
+        Order::Count { sent, shown } => show_count(rt, sent, shown)?,
     }
+    Ok(())
 }
 
 fn show_rows<'a>(rt: &HostRuntime) -> Result<(), Stop<'a>> {
