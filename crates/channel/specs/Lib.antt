@@ -1,2 +1,5 @@
 pub mod Drawing
 pub mod Hearing
+pub mod Fractions
+pub mod Plane
+pub mod Airs

@@ -1,7 +1,9 @@
 // The air between sender and receiver: a slow fade, and noise.
 ghost use Rattle.std.specs.Prelude.{◌≡◌, true, false, is_ok, IfOk, nat_le};
-ghost use Rattle.channel.specs.Drawing.{state_after};
+ghost use Rattle.std.specs.Float.{float_one};
+ghost use Rattle.channel.specs.Airs.{arrived, aired};
 ghost use Rattle.channel.specs.Hearing.{Hearable};
+ghost use Rattle.channel.specs.Plane.{phase_point, decided};
 ghost use Rattle.plan.specs.Plans.{plan_scheme};
 
 use crate::decision::Candidates;
@@ -30,7 +32,8 @@ const MOST: f64 = 1.5;
 impl Air {
     // Air in which a symbol has so many decibels more power than the noise, before it fades.
     pub fn new(seed: u64, decibels: i8) -> Air
-        ensures { result.generator.state ≡ seed }
+        ensures seed { result.generator.state ≡ seed }
+        ensures unfaded { result.amplitude ≡ float_one }
     {
         Air {
             generator: Generator::new(seed),
@@ -43,18 +46,18 @@ impl Air {
     pub fn hear(&mut self, plan: &Plan, value: u8, index: u8) -> Result<Heard, PhasesOnly>
         ensures answer { is_ok result ≡ nat_le (plan_scheme plan.now).bits 3 }
         ensures made { IfOk result (λ h. Hearable (plan_scheme plan.now).bits value h) }
-        ensures after { is_ok result ≡ true → self.new.generator.state ≡ state_after 36 self.old.generator.state }
-        ensures noise { self.new.noise ≡ self.old.noise }
+        ensures heard { IfOk result (λ h. h ≡ decided (plan_scheme plan.now).bits value (arrived self.old (phase_point index))) }
+        ensures after { is_ok result ≡ true → self.new ≡ aired self.old }
         ensures refused { is_ok result ≡ false → self.new ≡ self.old }
     {
         let candidates = Candidates::of(plan, value)?;
         Ok(candidates.decide(self.carry(point_of(index))))
     }
 
-    // A point as it arrives: three nearly normal numbers, for the walk and for the noise in each direction.
+    // A point as it arrives.
     fn carry(&mut self, sent: Point) -> Point
-        ensures after { self.new.generator.state ≡ state_after 36 self.old.generator.state }
-        ensures noise { self.new.noise ≡ self.old.noise }
+        ensures value { result ≡ arrived self.old sent }
+        ensures after { self.new ≡ aired self.old }
     {
         let walked = self.amplitude + STEP * self.generator.draw_normal();
         self.amplitude = walked.clamp(LEAST, MOST);

@@ -1,6 +1,7 @@
 // The decision for a received point: the nearest candidate, and how much nearer it is than the next.
-ghost use Rattle.std.specs.Prelude.{◌≡◌, ◌^◌, ◌≤◌, ◌⊎◌, is_ok, IfOk, nat_le};
+ghost use Rattle.std.specs.Prelude.{◌≡◌, ◌-◌, ◌^◌, ◌≤◌, is_ok, IfOk, nat_le};
 ghost use Rattle.channel.specs.Hearing.{candidate, Sendable, Hearable};
+ghost use Rattle.channel.specs.Plane.{with_candidate, nearest_of, weight_for, decided};
 ghost use Rattle.plan.specs.Plans.{plan_scheme};
 
 use crate::hearing::{Heard, PhasesOnly};
@@ -18,6 +19,12 @@ pub(crate) struct Candidates<'p> {
     ghost phases: { (plan_scheme plan.now).bits ≤ 3 },
 }
 
+// Farther than any point that arrives.
+const FAR: f64 = 1e9;
+
+// The weight of a squared distance of 1.
+const SCALE: f64 = 1024.0;
+
 // The nearest candidate so far, and the squared distances of it and of the next.
 #[derive(Clone, Copy)]
 struct Nearest {
@@ -29,7 +36,7 @@ struct Nearest {
 impl Nearest {
     // One more candidate taken into account.
     fn with(self, index: u8, apart: f64) -> Nearest
-        ensures { (result.index ≡ self.index) ⊎ (result.index ≡ index) }
+        ensures { result ≡ with_candidate self index apart }
     {
         if apart < self.near {
             Nearest {
@@ -81,13 +88,14 @@ impl Candidates<'_> {
 
     // The nearest of all candidates.
     fn nearest(self, received: Point) -> Nearest
-        ensures { Sendable (plan_scheme self.entry.plan.now).bits self.entry.value result.index }
+        ensures sendable { Sendable (plan_scheme self.entry.plan.now).bits self.entry.value result.index }
+        ensures nearest { let q = (plan_scheme self.entry.plan.now).bits in result ≡ nearest_of q self.entry.value received (2 ^ q - 1) }
     {
         let first = self.index_of(0);
         let mut best = Nearest {
             index: first,
             near: square_apart(received, point_of(first)),
-            next: 1e9,
+            next: FAR,
         };
         for number in 1..self.count() {
             let index = self.index_of(number);
@@ -98,7 +106,8 @@ impl Candidates<'_> {
 
     // What is heard of a received point.
     pub(crate) fn decide(self, received: Point) -> Heard
-        ensures { Hearable (plan_scheme self.entry.plan.now).bits self.entry.value result }
+        ensures hearable { Hearable (plan_scheme self.entry.plan.now).bits self.entry.value result }
+        ensures decided { result ≡ decided (plan_scheme self.entry.plan.now).bits self.entry.value received }
     {
         let best = self.nearest(received);
         Heard {
@@ -110,8 +119,9 @@ impl Candidates<'_> {
 
 // The weight of a squared distance by which the next candidate is farther.
 fn weight_of(farther: f64) -> u16
+    ensures value { result ≡ weight_for farther }
     ensures low { 1 ≤ result }
     ensures high { result ≤ 32767 }
 {
-    saturating_f64_to_u64(farther * 1024.0).clamp(1, 32_767) as u16
+    saturating_f64_to_u64(farther * SCALE).clamp(1, 32_767) as u16
 }

@@ -1,9 +1,16 @@
 // A seeded generator of 64-bit numbers.
 ghost use Rattle.std.specs.Prelude.{◌≡◌, ◌/◌, ◌%◌, ◌^◌, length, if◌then◌else◌, nat_eq};
 ghost use Rattle.channel.specs.Drawing.{stepped, state_after, mixed, drawn, drawn_bits, reordered};
+ghost use Rattle.channel.specs.Fractions.{fraction, normal};
 ghost use Rattle.std.specs.List.Sorted.{IsPermutation};
 
 use std::num::nearest_u64_to_f64;
+
+// A unit of 64 bits, as a part of 1.
+const UNIT: f64 = 5.421010862427522e-20;
+
+// The mean of twelve fractions.
+const MEAN: f64 = 6.0;
 
 #[derive(Clone, Copy)]
 pub struct Generator {
@@ -78,16 +85,18 @@ impl Generator {
 
     // A fraction from 0 to 1, all alike.
     pub fn draw_fraction(&mut self) -> f64
+        ensures value { result ≡ fraction self.old.state }
         ensures after { self.new.state ≡ stepped self.old.state }
     {
-        nearest_u64_to_f64(self.draw()) * 5.421010862427522e-20
+        nearest_u64_to_f64(self.draw()) * UNIT
     }
 
     // A nearly normal number, of mean 0 and deviation 1: twelve fractions less six.
     pub fn draw_normal(&mut self) -> f64
+        ensures value { result ≡ normal self.old.state }
         ensures after { self.new.state ≡ state_after 12 self.old.state }
     {
-        let mut sum = -6.0;
+        let mut sum = -MEAN;
         for _ in 0..12u8 {
             sum += self.draw_fraction();
         }
