@@ -1,3 +1,4 @@
 pub mod Lines
 pub mod Sent
+pub mod Tabled
 pub mod TextSent

@@ -1,4 +1,11 @@
 // The values of a scrambler.
+ghost use Rattle.std.specs.Prelude.{◌≡◌, ◌≤◌, true, is_ok, IfOk, if◌then◌else◌};
+ghost use Rattle.plan.specs.Faults.{chain_number, outcome};
+ghost use Rattle.plan.specs.Plans.{plan_scheme};
+ghost use Rattle.scrambler.specs.Meanings.{table_meaning};
+ghost use Rattle.scrambler.specs.Questions.{width_fits};
+ghost use Rattle.laboratory.specs.Tabling.{first_drawn, OfRegister};
+
 use crate::trouble::Trouble;
 use plan::{ChainFault, Plan};
 use scrambler::{Register, Scrambler, Table};
@@ -6,14 +13,28 @@ use sender::needed_width;
 use std::alloc::Global;
 use std::io::{BufRead, BufReader, Read};
 
-// The register's values at the places of a frame: asked for in any order, a table answers at once.
-pub fn register_table(heap: Global, plan: &Plan) -> Result<Table, ChainFault> {
-    let width = needed_width(plan.parts().symbol_bits);
+// The register's values at the first places, in their order.
+fn register_values(heap: Global, width: usize, count: usize) -> Result<Vec<u8>, ChainFault>
+    requires fits { width_fits width ≡ true }
+    requires reached { count ≤ 4096 }
+    ensures values { IfOk result (λ v. v.items ≡ first_drawn width count) }
+    ensures answer { outcome chain_number result ≡ (if is_ok result then 0 else 255) }
+{
     let mut register = Register::new(width)?;
-    let places = 0..plan.parts().frame_length;
-    let values = places
-        .map(|place| register.value(place).unwrap_or(0))
-        .collect(heap)?;
+    let mut values = Vec::new(heap);
+    for place in 0..count {
+        values.push(register.value(place).unwrap())?;
+    }
+    Ok(values)
+}
+
+// The register's values at the places of a frame: asked for in any order, a table answers at once.
+pub fn register_table(heap: Global, plan: &Plan) -> Result<Table, ChainFault>
+    ensures table { IfOk result (λ t. OfRegister (plan_scheme plan.now) (table_meaning t)) }
+    ensures answer { outcome chain_number result ≡ (if is_ok result then 0 else 255) }
+{
+    let width = needed_width(plan.parts().symbol_bits);
+    let values = register_values(heap, width, plan.parts().frame_length)?;
     Table::new(width, values)
 }
 
