@@ -42,7 +42,7 @@ impl Air {
         }
     }
 
-    // What is heard of a symbol that is sent with this on-air index, where the scrambler has this value: 36 draws.
+    // What is heard of a symbol that is sent with this on-air index, where the scrambler has this value.
     pub fn hear(&mut self, plan: &Plan, value: u8, index: u8) -> Result<Heard, PhasesOnly>
         ensures answer { is_ok result ≡ nat_le (plan_scheme plan.now).bits 3 }
         ensures made { IfOk result (λ h. Hearable (plan_scheme plan.now).bits value h) }
