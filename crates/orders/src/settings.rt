@@ -1,7 +1,8 @@
 // What the words behind a row set.
-ghost use Rattle.std.specs.Prelude.{◌≡◌, MatchResult};
+ghost use Rattle.std.specs.Prelude.{◌≡◌, None, MatchResult};
 ghost use Rattle.orders.specs.Words.{score_word};
 ghost use Rattle.orders.specs.declared.order.ScoreKind.{ScoreKind as TheScoreKind};
+ghost use Rattle.orders.specs.declared.order.ScoreKind.TheVariants.{Total};
 
 use crate::numbers::number;
 use crate::order::{Drawing, ScoreKind};
@@ -21,7 +22,12 @@ pub struct Settings<'a> {
 
 impl<'a> Settings<'a> {
     // Nothing is set.
-    pub fn none() -> Settings<'a> {
+    pub fn none() -> Settings<'a>
+        ensures table { result.table ≡ None }
+        ensures drawing { result.drawing ≡ None }
+        ensures copy { result.copy ≡ None }
+        ensures score { result.score ≡ Total }
+    {
         Settings {
             table: None,
             drawing: None,
