@@ -10,8 +10,9 @@ use crate::svg::show_svg;
 use crate::trouble::Trouble;
 use channel::Generator;
 use plan::Plan;
-use rows_text::print_bands;
+use rows_text::write_bands;
 use std::io;
+use std::io::{BufWriter, Write, writer};
 use std::time::Instant;
 
 // The seed of every block that is drawn here.
@@ -28,7 +29,9 @@ pub(crate) fn show_rows(rt: &HostRuntime) -> io::Result<()> {
     println!(rt;
         "waveform, rate, bits of a symbol, symbols of a frame; for each interleaver: frames, bits sent, bits of a block, increment"
     )?;
-    print_bands(rt)
+    let mut output = BufWriter::new(rt.alloc(), writer(rt))?;
+    write_bands(&mut output)?;
+    output.flush()
 }
 
 // Counts the dots of a run, and shows them as lines and as a plot, or as SVG alone.

@@ -3,11 +3,14 @@
 
 mod refusals;
 
-use rows_text::{print_bands, print_lists};
+use rows_text::{write_bands, write_lists};
 use std::io;
+use std::io::{BufWriter, Write, writer};
 
 fn main(rt: HostRuntime) -> io::Result<()> {
-    print_bands(&rt)?;
-    print_lists(&rt)?;
+    let mut output = BufWriter::new(rt.alloc(), writer(&rt))?;
+    write_bands(&mut output)?;
+    write_lists(rt.alloc(), &mut output)?;
+    output.flush()?;
     refusals::print_all(&rt)
 }

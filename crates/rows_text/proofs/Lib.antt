@@ -1,0 +1,4 @@
+pub mod Counted
+pub mod Low
+pub mod Shown
+pub mod Listed

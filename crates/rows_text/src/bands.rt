@@ -1,123 +1,54 @@
 // A block of lines for each bandwidth: its waveforms, and what its columns add up to.
-use rows::{Entry, Row};
-use std::io;
+ghost use Rattle.std.specs.Prelude.{Some, OnOk};
+ghost use Rattle.std.specs.Io.KnownBytes.{Appends};
+ghost use Rattle.rows_text.specs.Bands.{band_text, bands_text, band_part};
 
-// What the columns of a bandwidth's table add up to.
-#[derive(Clone, Copy, Default)]
-struct Sums {
-    rows: usize,
-    frames: usize,
-    sent: usize,
-    block: usize,
-    increment: usize,
+use crate::sums::Sums;
+use crate::waveforms::WaveformsText;
+use std::io::Write;
+use std::{fmt, io};
+
+// A heading with the count of rows, the waveforms, and the sums.
+#[derive(Clone, Copy)]
+struct BandText {
+    bandwidth: usize,
 }
 
-impl Sums {
-    fn add(&mut self, entry: Entry) {
-        self.rows = self.rows.saturating_add(1);
-        self.frames = self.frames.saturating_add(entry.frames);
-        self.sent = self.sent.saturating_add(entry.sent_length);
-        self.block = self.block.saturating_add(entry.block_length);
-        self.increment = self.increment.saturating_add(entry.increment);
+impl fmt::Display for BandText {
+    ghost output = { λ text. Some (band_text text.bandwidth) };
+
+    fn fmt<W: fmt::Write>(&self, f: &mut fmt::Formatter<W>) -> fmt::Result {
+        let bandwidth = self.bandwidth;
+        let Sums {
+            rows,
+            frames,
+            sent,
+            block,
+            increment,
+        } = Sums::of(bandwidth);
+        let waveforms = WaveformsText { bandwidth };
+        write!(f, "{bandwidth} kHz, {rows} rows\n{waveforms}")?;
+        write!(f, "sums of {rows}: {frames} {sent} {block} {increment}\n")
     }
+}
+
+// A bandwidth, where it has a row.
+fn write_band<W: Write>(output: &mut W, bandwidth: usize) -> io::Result<()>
+    ensures { OnOk result (Appends (W.contents output.old) (W.contents output.new) (band_part bandwidth)) }
+{
+    if Sums::of(bandwidth).rows == 0 {
+        return Ok(());
+    }
+    let band = BandText { bandwidth };
+    write!(output, "{band}")
 }
 
 // Every bandwidth below 64 kHz that has a row.
-pub fn print_bands(rt: &HostRuntime) -> io::Result<()> {
+pub fn write_bands<W: Write>(output: &mut W) -> io::Result<()>
+    ensures { OnOk result (Appends (W.contents output.old) (W.contents output.new) bands_text) }
+{
     for bandwidth in 0..64 {
-        if rows_of(bandwidth) > 0 {
-            print_band(rt, bandwidth)?;
-        }
+        write_band(output, bandwidth)?;
     }
     Ok(())
-}
-
-// How many rows there are, also under numbers that no waveform and no interleaver has.
-fn rows_of(bandwidth: usize) -> usize {
-    (0..32).fold(
-        0usize,
-        |rows, waveform| rows.saturating_add(interleavers_of(bandwidth, waveform)),
-    )
-}
-
-// How many rows a waveform has.
-fn interleavers_of(bandwidth: usize, waveform: usize) -> usize {
-    (0..8)
-        .filter_map(|interleaver| {
-            (Row {
-                bandwidth,
-                waveform,
-                interleaver,
-            })
-            .entry()
-        })
-        .count()
-}
-
-fn print_band(rt: &HostRuntime, bandwidth: usize) -> io::Result<()> {
-    let all = rows_of(bandwidth);
-    println!(rt; "{bandwidth} kHz, {all} rows")?;
-    let mut sums = Sums::default();
-    for waveform in 1..14 {
-        print_waveform(rt, bandwidth, waveform, &mut sums)?;
-    }
-    let Sums {
-        rows,
-        frames,
-        sent,
-        block,
-        increment,
-    } = sums;
-    println!(rt; "sums of {rows}: {frames} {sent} {block} {increment}")
-}
-
-// The rate, the bits of a symbol and the symbols of a frame; then each interleaver.
-fn print_waveform(
-    rt: &HostRuntime,
-    bandwidth: usize,
-    waveform: usize,
-    sums: &mut Sums,
-) -> io::Result<()> {
-    let Some(
-        Entry {
-            rate,
-            symbol_bits,
-            frame_length,
-            ..
-        },
-    ) = (Row {
-        bandwidth,
-        waveform,
-        interleaver: 0,
-    })
-    .entry()
-    else {
-        return println!(rt; "{waveform} -");
-    };
-    print!(rt; "{waveform} {rate} {symbol_bits} {frame_length}")?;
-    for interleaver in 0..4 {
-        if let Some(entry) = (Row {
-            bandwidth,
-            waveform,
-            interleaver,
-        })
-        .entry()
-        {
-            sums.add(entry);
-            print_interleaver(rt, entry)?;
-        }
-    }
-    println!(rt; "")
-}
-
-// The frames, the bits, the bits of the block and the increment.
-fn print_interleaver(rt: &HostRuntime, entry: Entry) -> io::Result<()> {
-    let Entry {
-        frames,
-        sent_length,
-        block_length,
-        increment,
-        ..
-    } = entry;
-    print!(rt; ", {frames} {sent_length} {block_length} {increment}")
 }

@@ -3,6 +3,8 @@
 
 mod bands;
 mod lists;
+mod sums;
+mod waveforms;
 
-pub use bands::print_bands;
-pub use lists::print_lists;
+pub use bands::write_bands;
+pub use lists::write_lists;
