@@ -18,6 +18,7 @@ from fuzzing.words import damaged_words
 # rows whose looks this account follows, the shortest block often, and others
 SHORT = [(3, 1, 0), (3, 1, 0), (3, 1, 0), (3, 2, 0), (3, 3, 0), (6, 1, 0), (9, 1, 0), (3, 13, 0), (3, 6, 0), (3, 7, 0)]
 OTHERS = [(3, 8, 0), (3, 9, 0), (3, 10, 0), (3, 11, 0), (3, 12, 0), (24, 1, 0), (24, 6, 0)]
+LONG = [(3, 9, 3), (48, 12, 3)]
 HUGE = 1 << 26
 
 
@@ -160,13 +161,22 @@ def lines_for(r, heard, size):
     return [make(heard, r) for make in r.choices(makers, weights, k=size)]
 
 
+def fuzz_long(r):
+    """A long row and the longest: looks of their blocks, which take long, are announced, and the memory is as long as the row."""
+    for row in LONG:
+        heard = Heard(r, plan_of(row, 7), register_values(needed_width(ROWS[row][1]), ROWS[row][2]))
+        lines = [make(heard, r) for make in (Heard.hear, Heard.note, Heard.blank) for _ in range(1000)] + [b"look"]
+        told(lines, *received([b"receive", *row_words(row, 7)], lines, True, heard.block))
+        judged([b"send", *row_words(row, 9), b"--random", b"1", b"5069"])
+
+
 def fuzz_lines(r, count):
     for lines in SHAPES:
         for feed in (True, False):
             told(lines, *received([b"receive", b"3", b"1", b"0", b"7"], lines, feed))
     total, kinds, peaks, sizes = Counter(), Counter(), [], [1, 2, 1000, 65535, 70000]
     while total["lines"] < count:
-        size = sizes.pop(0) if sizes else r.choice([1, 7, 500, 3000, 65536])
+        size = sizes.pop(0) if sizes else r.choice([1, 7, 500, 3000, 3000])
         words, plan, table = reception_for(r, size)
         heard = Heard(r, plan, table)
         lines = lines_for(r, heard, size)
@@ -253,7 +263,7 @@ def judged(words, text=b"", most=1 << 62):
     if fault is not None:
         written("/tmp/fuzz_chain.text", text)
         sys.exit(f"{words!r} with /tmp/fuzz_chain.text: {fault!r}")
-    if says.copy is not None and says.copy not in FILES:
+    if says.copy not in [None, *FILES]:
         os.unlink(says.copy)
     return says
 
@@ -274,7 +284,7 @@ def fuzz_texts(r, count):
     """Texts of bits to send, with copies and with tables, good and bad."""
     outcomes, blocks = Counter(), 0
     for _ in range(count):
-        row = r.choice(SHORT + SHORT + OTHERS[:3])
+        row = r.choice(SHORT + SHORT + OTHERS)
         plan = plan_of(row, r.choice([7, 9]))
         words = [b"send", *row_words(row, plan[0])]
         if r.random() < 0.4:
@@ -453,6 +463,7 @@ def fuzz(count, seed):
     with tempfile.TemporaryDirectory() as folder:
         os.chdir(folder)
         fuzz_sizes()
+        fuzz_long(r)
         fuzz_texts(r, count // 20)
         fuzz_pairs(r, count // 20)
         fuzz_words(r, count // 4)

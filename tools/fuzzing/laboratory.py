@@ -18,6 +18,8 @@ LONG_BLOCK = 10000
 
 A_ROW = b"a row takes four numbers: bandwidth, waveform, interleaver, constraint length"
 USAGE = b"usage: chain rows\n"
+# what is said of words that are no UTF-8, before they come to chain
+NO_TEXT = b"Error: Kind(InvalidData)"
 
 
 class TooLong(Exception):
@@ -284,7 +286,7 @@ class Chain:
 
     def obey(self, words):
         if not all(map(utf_8, words)):
-            raise Stop(b"invalid data")
+            raise Stop(NO_TEXT)
         word, *rest = words or [b""]
         orders = {b"rows": self.rows, b"plan": self.plan, b"send": self.send, b"receive": self.receive, b"count": self.count}
         if word not in orders:
@@ -388,7 +390,8 @@ class Chain:
     def says(self):
         """What goes to standard error: a message, and how the usage begins behind it; or that looks of a long block begin."""
         if self.stop is not None:
-            return b"chain: " + self.stop.message + b"\n", USAGE * self.stop.usage
+            named = b"" if self.stop.message == NO_TEXT else b"chain: "
+            return named + self.stop.message + b"\n", USAGE * self.stop.usage
         if self.reception is None or self.reception.receiver.plan[3] < LONG_BLOCK:
             return b"", b""
         return b"looking for the best block of %d bits\n" % self.reception.receiver.plan[3] * self.reception.looks, b""
