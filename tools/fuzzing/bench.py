@@ -2,10 +2,11 @@
 
 import random
 import sys
+from collections import Counter
 from math import gcd
 
 from fuzzing.account import Receiver, Refused, needed_width
-from fuzzing.lines import damaged_line
+from fuzzing.lines import LONGEST, damaged_line, kinds_of
 from fuzzing.programs import Run
 
 
@@ -23,7 +24,7 @@ class Bench:
             return b"R%02X%04X" % (no.args[0], number)
 
     def accepted(self, line):
-        if not line or len(line) > 2080 or line[:1] not in (b"P", b"S", b"H", b"V", b"C", b"L"):
+        if not line or len(line) > LONGEST or line[:1] not in (b"P", b"S", b"H", b"V", b"C", b"L"):
             raise Refused(18)
         digits = line[1:]
         if len(digits) % 2 or any(c not in b"0123456789ABCDEF" for c in digits):
@@ -204,15 +205,16 @@ def fuzz(count, seed):
     for lines in SHAPES:
         for feed in (True, False):
             told(lines, check_run(lines, feed))
-    runs, sizes = [], [1, 2, 1000, 65535, 65536, 70000]
+    runs, kinds, sizes = [], Counter(), [1, 2, 1000, 65535, 65536, 70000]
     while sum(done for done, _, _, _ in runs) < count:
         size = sizes.pop(0) if sizes else r.choice([1, 7, 500, 3000, 65534, 65535, 65536, 70000])
         lines = lines_for(r, size, Bench())
         runs.append(check_run(lines, r.random() < 0.5))
+        kinds += kinds_of(lines)
         told(lines, runs[-1])
     total, looks, refused, _ = map(sum, zip(*runs))
     peaks = [peak for _, _, _, peak in runs]
-    print(f"{len(runs)} runs, {total} lines, {looks} looks, {refused} refused: every answer as the rules say; from {min(peaks)} to {max(peaks)} KiB")
+    print(f"{len(runs)} runs, {total} lines, {looks} looks, {refused} refused: every answer as the rules say; from {min(peaks)} to {max(peaks)} KiB; of the lines {dict(kinds)}")
 
 
 def told(lines, outcome):

@@ -1,4 +1,4 @@
-"""Random and damaged lines, texts, files and words for chain."""
+"""Feeds chain with what is made up, and judges what it does."""
 
 import os
 import random
@@ -9,101 +9,17 @@ import tempfile
 import time
 from collections import Counter
 
-from fuzzing.account import needed_width, register_values, transmission
-from fuzzing.laboratory import LONGEST, QUESTIONS, ROWS, Chain, Refused, TooLong, plan_of, table_values
-from fuzzing.lines import damaged_line
+from fuzzing.account import needed_width, register_values
+from fuzzing.laboratory import ROWS, Chain, TooLong, plan_of, table_values
+from fuzzing.lines import kinds_of
+from fuzzing.made_up import COPIES, FILES, INPUTS, LINES, ODD, ORDERS, OTHERS, OWN, SHORT, Heard
+from fuzzing.made_up import another, bad_table, bits_text, good_table, row_words
 from fuzzing.programs import Run, carried_out, command, state_of
 from fuzzing.words import damaged_words
 
-# rows whose looks this account follows, the shortest block often, and others
-SHORT = [(3, 1, 0), (3, 1, 0), (3, 1, 0), (3, 2, 0), (3, 3, 0), (6, 1, 0), (9, 1, 0), (3, 13, 0), (3, 6, 0), (3, 7, 0)]
-OTHERS = [(3, 8, 0), (3, 9, 0), (3, 10, 0), (3, 11, 0), (3, 12, 0), (24, 1, 0), (24, 6, 0)]
 LONG = [(3, 9, 3), (48, 12, 3)]
 HUGE = 1 << 26
 
-
-def row_words(row, k):
-    return [b"%d" % x for x in (*row, k)]
-
-
-def drawn_from(r, some, count):
-    """So many of these bytes."""
-    return bytes(r.choice(some) for _ in range(count))
-
-
-class Heard:
-    """What a simulator knows: the plan, a block that was sent and its air."""
-
-    def __init__(self, r, plan, table):
-        self.plan = plan
-        self.block = [r.randrange(2) for _ in range(plan[3])]
-        self.air = transmission(plan, table, self.block)
-
-    def hear(self, r):
-        place = r.randrange(len(self.air))
-        index = self.air[place] if r.random() < 0.8 else r.randrange(1 << needed_width(self.plan[4]))
-        return b"%d %d %d" % (place, index, r.choice([0, 1, 5, 1000, 32767, r.randrange(32768)]))
-
-    def note(self, r):
-        return b"note %d %d" % (r.randrange(self.plan[7]), r.choice([0, 1, -1, 32767, -32767, r.randint(-32767, 32767)]))
-
-    def blank(self, r):
-        return b"blank %d" % r.randrange(len(self.air))
-
-    def look(self, r):
-        return b"look"
-
-    def any(self, r):
-        return r.choice([self.hear, self.hear, self.note, self.blank, self.look])(r)
-
-    def comment(self, r):
-        return r.choice([b"#", b"# ", b"  #", b"\t# look", b"#0 1 2"]) + drawn_from(r, b"look 0123#\xc3\xa9\0", r.randrange(30))
-
-    def nothing(self, r):
-        return drawn_from(r, b" \t\f\r", r.choice([0, 0, 1, 5]))
-
-    def spaced(self, r):
-        """A line with other bytes about its words, white space or not."""
-        gaps = [b"  ", b"\t", b" \t\f ", b"\r", b" \r", b"\v", b"\0", b"\xc2\xa0", b"#", b",", b""]
-        words = self.any(r).split()
-        return r.choice([b"", b" ", b"\t"]) + r.choice(gaps).join(words) + r.choice([b"", b" ", b"\r", b" # noise", b"\v"])
-
-    def odd_number(self, r):
-        """A line with one number past its bounds, or written in another way."""
-        words = self.any(r).split()
-        at = r.randrange(len(words))
-        ways = [b"0%b", b"+%b", b"-%b", b"%b.0"]
-        numbers = NUMBERS + [b"%d" % self.plan[7], b"%d" % len(self.air)] + [way % words[at] for way in ways]
-        words[at] = r.choice(numbers)
-        return b" ".join(words)
-
-    def other_words(self, r):
-        """A line with a word more, fewer, or in another place."""
-        words = self.any(r).split()
-        words.insert(r.randint(0, len(words)), r.choice([b"look", b"note", b"blank", b"0", b"7", b"#", b"Look", b"end"]))
-        return b" ".join(r.sample(words, r.randint(1, len(words))))
-
-    def damaged(self, r):
-        return damaged_line(r, self.any(r), STARTS, FILLS, b"0 #\xff\0")
-
-
-STARTS = [b"look", b"0 1 ", b"note 0 1", b"#", b" "]
-FILLS = [b" ", b" ", b"0", b"1", b"x"]
-BOUNDS = [8, 255, 256, 32767, 32768, 40000, 65535, 65536, -1, -32768, -32769, (1 << 32) - 1, 1 << 32, 1 << 64, 10**400]
-NUMBERS = [b"%d" % x for x in BOUNDS] + [b"-0", b"0x1", b"1e3", b"1_0"]
-
-# how lines are made, and how often of a hundred; looks by what they cost
-LINES = [
-    (Heard.hear, 45),
-    (Heard.note, 14),
-    (Heard.blank, 6),
-    (Heard.comment, 3),
-    (Heard.nothing, 3),
-    (Heard.spaced, 6),
-    (Heard.odd_number, 8),
-    (Heard.other_words, 3),
-    (Heard.damaged, 12),
-]
 
 # inputs of odd shape
 SHAPES = [
@@ -121,20 +37,6 @@ SHAPES = [
     [b"0 5 1" + b"0" * HUGE, b"0 5 1"],
 ]
 
-# what is told of lines: which of them there are
-KINDS = {
-    "empty": lambda line: not line,
-    "with a carriage return at the end": lambda line: line.endswith(b"\r"),
-    "with bytes that are no text": lambda line: any(c > 126 or c < 9 for c in line[:5000]),
-    "comments": lambda line: line.lstrip(b" \t\f\r").startswith(b"#"),
-    "with a number past 64 bits": lambda line: any(len(word) > 20 and word.isdigit() for word in line[:5000].split()),
-    f"of {LONGEST} characters": lambda line: len(line) == LONGEST,
-    f"of {LONGEST + 1} characters": lambda line: len(line) == LONGEST + 1,
-    f"longer than {LONGEST + 1}": lambda line: len(line) > LONGEST + 1,
-    "of 65,536 characters or more": lambda line: len(line) >= 65536,
-}
-
-
 def ended(lines, feed):
     return b"\n".join(lines) + (b"\n" if feed and lines else b"")
 
@@ -147,25 +49,22 @@ def received(words, lines, feed, sent=None):
         says.reception.sent = sent
     fault = says.wrong(run)
     if fault is not None:
-        with open("/tmp/fuzz_chain.lines", "wb") as kept:
-            kept.write(text)
-        sys.exit(f"{words!r} over {len(lines)} lines (/tmp/fuzz_chain.lines): {fault!r}")
+        written("/tmp/fuzz_chain.text", text)
+        sys.exit(f"{words!r} over {len(lines)} lines (/tmp/fuzz_chain.text): {fault!r}")
     return Counter(lines=len(lines), looks=says.reception.looks, refused=says.reception.refused), run.peak
 
 
-def lines_for(r, heard, size):
-    """The lines of one run. A look that this account follows takes about a second for 8 million windows, and a run 30."""
-    windows = heard.plan[3] << 2 * heard.plan[0]
-    looks = min(0.01, 240e6 / windows / size) if windows <= 45 << 18 else min(0.01, 300 / size)
-    makers, weights = zip(*LINES, (Heard.look, 100 * looks))
-    return [make(heard, r) for make in r.choices(makers, weights, k=size)]
+def looks_of(plan, size):
+    """How many of so many lines are looks: this account follows 8 million windows in a second or two, and all looks in about 40."""
+    windows = plan[3] << 2 * plan[0]
+    return min(0.02, 300 / size if windows > 45 << 18 else 200e6 / windows / size)
 
 
 def fuzz_long(r):
     """A long row and the longest: looks of their blocks, which take long, are announced, and the memory is as long as the row."""
     for row in LONG:
-        heard = Heard(r, plan_of(row, 7), register_values(needed_width(ROWS[row][1]), ROWS[row][2]))
-        lines = [make(heard, r) for make in (Heard.hear, Heard.note, Heard.blank) for _ in range(1000)] + [b"look"]
+        heard = Heard(r, plan_of(row, 7), register_values(needed_width(ROWS[row][1]), ROWS[row][2]), 0)
+        lines = [heard.good(r) for _ in range(5000)] + [b"look"]
         told(lines, *received([b"receive", *row_words(row, 7)], lines, True, heard.block))
         judged([b"send", *row_words(row, 9), b"--random", b"1", b"5069"])
 
@@ -178,12 +77,13 @@ def fuzz_lines(r, count):
     while total["lines"] < count:
         size = sizes.pop(0) if sizes else r.choice([1, 7, 500, 3000, 3000])
         words, plan, table = reception_for(r, size)
-        heard = Heard(r, plan, table)
-        lines = lines_for(r, heard, size)
+        heard = Heard(r, plan, table, looks_of(plan, size))
+        makers, weights = zip(*LINES)
+        lines = [make(heard, r) for make in r.choices(makers, weights, k=size)]
         done, peak = received(words, lines, r.random() < 0.5, heard.block)
         told(lines, done, peak)
         total, peaks = total + done + Counter(runs=1), peaks + [peak]
-        kinds += Counter({name: sum(map(fits, lines)) for name, fits in KINDS.items()})
+        kinds += kinds_of(lines)
     print(f"receive: {dict(total)}, every answer as the rules say; from {min(peaks)} to {max(peaks)} KiB; of the lines {dict(kinds)}", flush=True)
 
 
@@ -209,51 +109,6 @@ def told(lines, done, peak):
 def written(name, text):
     with open(name, "wb") as file:
         file.write(text)
-
-
-def good_table(r, plan):
-    count = r.choice([plan[5], plan[5], r.randint(plan[5], 4096), 4096])
-    return table_text(r, [b"%d" % r.randrange(1 << needed_width(plan[4])) for _ in range(count)])
-
-
-def table_text(r, words):
-    gaps = r.choice([[b" "], [b"\n"], [b" ", b"\t", b"\r\n", b"\n", b"\f", b" # 9 x\n"]])
-    return b"".join(word + r.choice(gaps) for word in words)
-
-
-VALUES = [b"255", b"256", b"-1", b"-0", b"+1", b"+", b"007", b"0000", b"1.0", b"x", b"\xd9\xa3", b"\xff", b"1\v2", b"\0", b"#", b"9" * 5000]
-
-
-def bad_table(r, plan):
-    """Too few values, none or too many, one too great, or something else than values."""
-    width = needed_width(plan[4])
-    words = [b"%d" % r.randrange(1 << width) for _ in range(r.choice([0, 1, plan[5] - 1, plan[5], 4096, 4097, 5000]))]
-    for _ in range(r.randint(0, 2)):
-        words.insert(r.randint(0, len(words)), r.choice(VALUES + [b"%d" % (1 << width)]))
-    return table_text(r, words)
-
-
-# pieces of a text of bits, and how often each comes
-PIECES = [
-    (lambda r, b: drawn_from(r, b"01", r.choice([1, 7, b, b, 2 * b, r.randint(1, b)])), 50),
-    (lambda r, b: b"\n", 20),
-    (lambda r, b: b"\r\n", 5),
-    (lambda r, b: r.choice([b" ", b"\t", b"  ", b"\v\f", b"\r"]), 12),
-    (lambda r, b: b"# block 1\n", 5),
-    (lambda r, b: b"#" + drawn_from(r, b"01#x\xff\0 ", r.randrange(9)) + r.choice([b"\n", b"\r\n", b""]), 4),
-]
-STRAYS = [b"2", b"9", b"x", b"-", b"'", b"\0", b"\x7f", b"\x08", b"\x0e", b"\x1c", b"\x85", b"\xa0", b"\xff", b"\xef\xbb\xbf", b"O", b"~", b"!"]
-
-
-def bits_text(r, b):
-    """A text of bits; in 15 of 100 something else stands in it, and half of the others end with a whole block."""
-    makers, weights = zip(*PIECES)
-    pieces = [make(r, b) for make in r.choices(makers, weights, k=r.choice([0, 1, 3, 10, 40]))]
-    if r.random() < 0.15:
-        pieces.insert(r.randint(0, len(pieces)), r.choice(STRAYS))
-    text = b"".join(pieces)
-    said = sum(line.partition(b"#")[0].count(digit) for line in text.split(b"\n") for digit in (b"0", b"1"))
-    return text + b"\n" + b"0" * (-said % b) if r.random() < 0.5 else text
 
 
 def judged(words, text=b"", most=1 << 62):
@@ -295,23 +150,6 @@ def fuzz_texts(r, count):
         says = judged(words, bits_text(r, plan[3]))
         outcomes, blocks = outcomes + Counter([outcome(says)]), blocks + says.output.count(b"#")
     print(f"send: {count} texts, {blocks} blocks: {dict(outcomes)}", flush=True)
-
-
-def another(r, text):
-    """The shown text of a sent one: bits turned, lines dropped, doubled or put in, other line ends."""
-    lines = text.split(b"\n")
-    for _ in range(r.randrange(4)):
-        lines = lines or [b""]
-        at, way = r.randrange(len(lines)), r.randrange(4)
-        if way == 0:
-            lines[at] = bytes(c ^ (c in b"01" and r.random() < 0.2) for c in lines[at])
-        elif way == 1:
-            lines[at : at + 1] = [lines[at]] * r.choice([0, 2])
-        elif way == 2:
-            lines.insert(at, r.choice([b"# score 17", b"", b"0", b"01" * 40, b"\r"]))
-        else:
-            lines[at] += r.choice([b"0", b" ", b"\r", b"#0"] + STRAYS[: r.choice([0, 0, 0, len(STRAYS)])])
-    return b"\n".join(lines)
 
 
 def fuzz_pairs(r, count):
@@ -358,64 +196,6 @@ def resident_of_drawn(blocks):
     if came != says.output or run.wait() != 0:
         sys.exit(f"{words!r}: another output, or status {run.returncode}")
     return size
-
-
-# the files that words name: tables for every row or for none, texts of bits, and a folder
-FILES = {
-    b"good.txt": b" ".join(b"%d" % (place % 8) for place in range(4096)),
-    b"short.txt": b"1 2 3\n",
-    b"long.txt": b"1 " * 4097,
-    b"great.txt": b"8 15 16 255\n" * 1024,
-    b"stray.txt": b"1 2\n3 x\n",
-    b"latin.txt": b"1 2 # caf\xe9\n",
-    b"empty.txt": b"",
-    b"bits.txt": b"011010011001011001101001\n" * 3,
-    b"others.txt": b"# score 5\n011010011001011001101000\n\n0110\n",
-    b"no_bits.txt": b"0110\n2\n",
-}
-TABLES = [b"good.txt", b"good.txt", b"short.txt", b"long.txt", b"great.txt", b"stray.txt", b"latin.txt", b"empty.txt", b"folder", b"missing.txt", b""]
-TEXTS = [b"bits.txt", b"bits.txt", b"others.txt", b"no_bits.txt", b"empty.txt", b"latin.txt", b"folder", b"missing.txt"]
-COPIES = [b"copy.txt", b"copy.txt", b"sent.txt", b"folder", b"missing/copy.txt", b"", b"good.txt", b"n" * 255, b"n" * 256]
-INPUTS = [b"", b"011010011001011001101001", b"0110", b"01 10\n1x", b"look", b"note 0 5\nnote 1 -5\n0 5 1\nlook\nend\n"]
-
-# what the words of an order are, and how often each comes
-ORDERS = [
-    (lambda r: [b"rows"], 5),
-    (lambda r: [b"plan", *good_row(r)], 15),
-    (lambda r: [b"send", *good_row(r), *settings(r, [drawn, copied, tabled])], 35),
-    (lambda r: [b"receive", *good_row(r), *settings(r, [scored, tabled])], 30),
-    (lambda r: [b"count", r.choice(TEXTS), r.choice(TEXTS)], 15),
-]
-OWN = [b"--random", b"--copy", b"--table", b"--score", b"--score=worst", b"--random=1", b"--", b"-", b"--help", b"total"]
-OWN += [b"rows", b"plan", b"send", b"receive", b"count", b"good.txt", b"bits.txt", b"missing.txt", b"folder"]
-ODD = [b"0x10", b"7 ", b" 7", b"1e3", b"\xd9\xa3", b"24\r", b"+7", b"007", b"+", b"\xff"]
-
-
-def good_row(r):
-    row = r.choice(SHORT + OTHERS + [r.choice(list(ROWS))])
-    if r.random() < 0.15:
-        row = r.randint(0, 50), r.randint(0, 15), r.randint(0, 5)
-    return row_words(row, r.choice([7, 7, 7, 7, 9, 8]))
-
-
-def settings(r, makers):
-    return [word for make in r.sample(makers, r.randint(0, len(makers))) for word in make(r)]
-
-
-def drawn(r):
-    return [b"--random", b"%d" % r.choice([0, 1, 2, 5, 1 << 63]), b"%d" % r.randrange(1 << 64)]
-
-
-def copied(r):
-    return [b"--copy", r.choice(COPIES)]
-
-
-def tabled(r):
-    return [b"--table", r.choice(TABLES)]
-
-
-def scored(r):
-    return [b"--score", r.choice([b"total", b"worst", b"count", b"best", b"Total", b""])]
 
 
 def laid():

@@ -6,6 +6,7 @@ from itertools import zip_longest
 from operator import add, ne
 
 from fuzzing.account import ONE_MORE, Receiver, Refused, needed_width, register_values, transmission
+from fuzzing.lines import LONGEST
 from fuzzing.programs import ROOT
 from fuzzing.words import number, utf_8
 
@@ -13,7 +14,6 @@ from fuzzing.words import number, utf_8
 SPACE = b" \t\n\v\f\r"
 WHITE = rb"[ \t\n\f\r]+"
 
-LONGEST = 2080
 LONG_BLOCK = 10000
 
 A_ROW = b"a row takes four numbers: bandwidth, waveform, interleaver, constraint length"
