@@ -1,2 +1,4 @@
 pub mod Pushed
 pub mod Lines
+pub mod Shown
+pub mod Standing

@@ -7,7 +7,7 @@ mod reader;
 mod stray;
 
 pub use block::BlockText;
-pub use law::written_blocks_hold;
+pub use law::{readers_stand_holds, written_blocks_hold};
 pub use reader::BitsReader;
 pub use stray::Stray;
 

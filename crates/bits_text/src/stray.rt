@@ -1,4 +1,7 @@
 // What stands in a text of bits and is no bit.
+ghost use Rattle.std.specs.Prelude.{Some};
+ghost use Rattle.bits_text.specs.Strays.{stray_text};
+
 use std::fmt;
 
 #[derive(Clone, Copy, Debug, PartialEq, Eq)]
@@ -9,6 +12,8 @@ pub struct Stray {
 }
 
 impl fmt::Display for Stray {
+    ghost output = { λ stray. Some (stray_text stray) };
+
     fn fmt<W: fmt::Write>(&self, f: &mut fmt::Formatter<W>) -> fmt::Result {
         let Stray { line, byte } = *self;
         if byte.is_ascii_graphic() {
