@@ -1,2 +1,3 @@
 pub mod Comparing
 pub mod Report
+pub mod Laws

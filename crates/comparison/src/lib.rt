@@ -2,9 +2,11 @@
 #![tactic(auto)]
 
 mod comparison;
+mod law;
 mod report;
 
 pub use comparison::Comparison;
+pub use law::counts_hold;
 
 #[cfg(test)]
 mod tests {
