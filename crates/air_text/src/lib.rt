@@ -1,8 +1,10 @@
 // What is on the air for a block, as lines of text.
 #![tactic(auto)]
 
+mod law;
 mod lines;
 
+pub use law::one_block_holds;
 pub use lines::AirText;
 
 #[cfg(test)]

@@ -3,3 +3,4 @@ pub mod Numbers
 pub mod Telling
 pub mod Cut
 pub mod Single
+pub mod Lined
