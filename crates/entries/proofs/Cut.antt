@@ -1,6 +1,6 @@
 -- What is kept of a line tells what the whole line says.
 -- Assumes nothing.
-use Rattle.std.proofs.Common.{◌≡◌, ℕ, ◌<◌, ◌≤◌, List, length, Some, None, Ok, Err, Option, Result, ap, subst, ⊎_elim, arith, length-take}
+use Rattle.std.proofs.Common.{ℕ, ◌<◌, List, length, Some, None, Ok, Err, Option, Result, subst, ⊎_elim, arith, length-take}
 use Rattle.std.proofs.lemmas.List.{take_all}
 use Rattle.std.proofs.lemmas.Bool.{cases_lt}
 use Rattle.lines.specs.Inputs.{kept_of}

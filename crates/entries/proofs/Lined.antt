@@ -1,17 +1,14 @@
 -- A line for each entry: its words, a blank behind each.
 -- Assumes nothing.
-use Rattle.std.proofs.Common.{◌≡◌, ℕ, suc, zero, ◌+◌, ◌^◌, ◌<◌, ◌≤◌, true, false, cond, List, [], ◌∷◌, ◌++◌, length, get_or, codes, sym, refl, ap, ◌∙◌, append_assoc, ℤ, pos, negsuc, ◌≤ℤ◌, arith, length-append}
-use Rattle.std.specs.Prelude.{◌==◌, ◌||◌}
+use Rattle.std.proofs.Common.{◌≡◌, ℕ, suc, zero, ◌^◌, ◌<◌, ◌≤◌, false, cond, List, [], ◌∷◌, ◌++◌, length, get_or, codes, sym, refl, ap, ◌∙◌, append_assoc, ℤ, pos, negsuc, ◌≤ℤ◌, arith, length-append}
 use Rattle.std.proofs.lemmas.Bool.Decides.{nat_tests}
 use Rattle.std.proofs.lemmas.Int.{ints}
 use Rattle.std.proofs.lemmas.List.{append-nil}
 use Rattle.std.proofs.lemmas.Fmt.{decimal_is_IsNumeral, length-decimal-le}
 use Rattle.std.proofs.lemmas.Str.Parse.{digit_at}
 use Rattle.std.specs.Fmt.{decimal, signed_decimal}
-use Rattle.entries.specs.Entries.{InRange, Writes}
 use Rattle.entries.specs.Laws.{EachHasALine}
 use Rattle.entries.specs.Words.{white, words_from, words}
-use Rattle.entries.specs.declared.entry.Entry.{Entry}
 use Rattle.entries.specs.declared.entry.Entry.TheVariants.{Hear, Note, Blank, Look}
 
 -- some bytes, of which none is white space
@@ -69,24 +66,30 @@ each_has_a_line (Hear p i w) r =
     let b : i < 2 ^ 32 = omega (arith, r.1) in
     let c : w < 2 ^ 32 = omega (arith, r.2) in
     let third = before (decimal w) [] (number_plain w c) in
-    let second = before (decimal i) (decimal w ++ 32 ∷ []) (number_plain i b) ∙ ap (λ l. decimal i ∷ l) third in
-    (decimal p ++ 32 ∷ (decimal i ++ 32 ∷ (decimal w ++ 32 ∷ [])), record {
-      in_range = r;
-      written = before (decimal p) (decimal i ++ 32 ∷ (decimal w ++ 32 ∷ [])) (number_plain p r.0) ∙ ap (λ l. decimal p ∷ l) second;
-      short = omega (arith, number_short p r.0, number_short i b, number_short w c, length-append {A = ℕ});
-    })
+    let second = before (decimal i) (decimal w ++ 32 ∷ []) (number_plain i b) ∙ ap (λ l. decimal i ∷ l) third in (
+      decimal p ++ 32 ∷ (decimal i ++ 32 ∷ (decimal w ++ 32 ∷ [])),
+      record {
+        in_range = r;
+        written = before (decimal p) (decimal i ++ 32 ∷ (decimal w ++ 32 ∷ [])) (number_plain p r.0) ∙ ap (λ l. decimal p ∷ l) second;
+        short = omega (arith, number_short p r.0, number_short i b, number_short w c, length-append {A = ℕ});
+      },
+    )
 each_has_a_line (Note l v) r =
     let value = value_plain v r.1 r.2 in
-    let second = before (decimal l) (signed_decimal v ++ 32 ∷ []) (number_plain l r.0) ∙ ap (λ x. decimal l ∷ x) (before (signed_decimal v) [] value.0) in
-    (codes "note" ++ 32 ∷ (decimal l ++ 32 ∷ (signed_decimal v ++ 32 ∷ [])), record {
-      in_range = r;
-      written = ap (λ x. codes "note" ∷ x) second;
-      short = omega (arith, number_short l r.0, value.1, length-append {A = ℕ});
-    })
-each_has_a_line (Blank p) r =
-    (codes "blank" ++ 32 ∷ (decimal p ++ 32 ∷ []), record {
-      in_range = r;
-      written = ap (λ x. codes "blank" ∷ x) (before (decimal p) [] (number_plain p r));
-      short = omega (arith, number_short p r, length-append {A = ℕ});
-    })
+    let second = before (decimal l) (signed_decimal v ++ 32 ∷ []) (number_plain l r.0) ∙ ap (λ x. decimal l ∷ x) (before (signed_decimal v) [] value.0) in (
+      codes "note" ++ 32 ∷ (decimal l ++ 32 ∷ (signed_decimal v ++ 32 ∷ [])),
+      record {
+        in_range = r;
+        written = ap (λ x. codes "note" ∷ x) second;
+        short = omega (arith, number_short l r.0, value.1, length-append {A = ℕ});
+      },
+    )
+each_has_a_line (Blank p) r = (
+  codes "blank" ++ 32 ∷ (decimal p ++ 32 ∷ []),
+  record {
+    in_range = r;
+    written = ap (λ x. codes "blank" ∷ x) (before (decimal p) [] (number_plain p r));
+    short = omega (arith, number_short p r, length-append {A = ℕ});
+  },
+)
 each_has_a_line Look r = (codes "look", record { in_range = r; written = refl; short = omega arith })

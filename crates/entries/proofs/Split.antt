@@ -3,7 +3,7 @@
 use Rattle.std.proofs.Common.{◌≡◌, ℕ, zero, suc, ◌+◌, ◌<◌, ◌≤◌, true, false, cond, List, [], ◌∷◌, ◌++◌, length, get_or, take, drop, sym, refl, ap, ◌∙◌, append_assoc, arith, length-drop}
 use Rattle.std.proofs.lemmas.List.{append-nil, get_or-drop}
 use Rattle.std.proofs.lemmas.Bool.{false≢true}
-use Rattle.entries.specs.Words.{white, closed, words_from, words}
+use Rattle.entries.specs.Words.{white, words_from, words}
 
 -- white space in front is no part of a word
 pub past_gap : (n : ℕ) (text : List ℕ) → n ≤ length text → ((k : ℕ) → k < n → white (get_or text k 0) ≡ true) → words text ≡ words (drop n text)

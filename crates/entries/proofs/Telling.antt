@@ -1,6 +1,6 @@
 -- The first byte of its first word tells an entry's kind.
 -- Assumes nothing.
-use Rattle.std.proofs.Common.{◌≡◌, ℕ, ◌^◌, ◌<◌, ◌≢◌, List, [], ◌∷◌, get_or, drop, ℤ, pos, negsuc, ◌≤ℤ◌, codes, sym, ap, ◌∙◌, arith}
+use Rattle.std.proofs.Common.{◌≡◌, ℕ, ◌^◌, ◌<◌, ◌≢◌, List, [], ◌∷◌, get_or, drop, ℤ, codes, sym, ap, arith}
 use Rattle.std.specs.Fmt.{decimal, signed_decimal}
 use Rattle.entries.specs.Entries.{InRange, entry_words}
 use Rattle.entries.specs.declared.entry.Entry.{Entry}

@@ -1,4 +1,4 @@
-use Rattle.std.proofs.Common.{◌≡◌, ◌∙◌, subst}
+use Rattle.std.proofs.Common.{◌∙◌, subst}
 use Rattle.entries.specs.Readings.{LineReading}
 use Rattle.entries.proofs.Cut.{reading_whole}
 use Rattle.entries.proofs.kept.read_line.Goals as goal
