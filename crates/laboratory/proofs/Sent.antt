@@ -1,20 +1,21 @@
 -- What is sent for one block more.
 -- Assumes nothing.
-use Rattle.std.proofs.Common.{◌≡◌, ℕ, zero, suc, ◌+◌, ◌*◌, List, [], ◌∷◌, ◌++◌, length, Some, None, Option, sym, refl, ap, ◌∙◌, subst, append_assoc, append-nil, arith}
-use Rattle.std.specs.List.{flat_map}
+use Rattle.std.proofs.Common.{◌≡◌, ℕ, zero, suc, ◌+◌, ◌*◌, ◌/◌, ◌^◌, ◌<◌, List, [], ◌∷◌, ◌++◌, length, map, Some, None, Option, sym, refl, ap, ◌∙◌, subst, append_assoc, append-nil, arith}
+use Rattle.std.specs.List.{range_with_len}
 use Rattle.std.specs.Io.KnownBytes.{Appends}
+use Rattle.std.proofs.lemmas.Nat.{xor_lt, div_below, mod_below, pow_pos}
 use Rattle.std.proofs.lemmas.Grind.{flat_map-append}
 use Rattle.std.proofs.lemmas.List.FromFn.{length-map-range_with_len}
 use Rattle.air_text.specs.Lines.{air_text}
-use Rattle.bits_text.specs.Texts.{block_line}
-use Rattle.channel.specs.Drawing.{stepped, state_after, drawn_bit, drawn_bits}
+use Rattle.bits_text.specs.Texts.{Bits, block_line}
+use Rattle.channel.specs.Drawing.{stepped, folded_right, state_after, drawn, drawn_bit, drawn_bits}
 use Rattle.code.specs.Numbers.{bits_of}
 use Rattle.plan.specs.Scheme.{Scheme}
 use Rattle.scrambler.specs.Meaning.{Meaning}
 use Rattle.sender.specs.Transmission.{transmission}
 use Rattle.laboratory.specs.Sending.{count_on, number_after, air_from, on_air, bit_lines, drawn_blocks, Written}
 
-appends_both : (a b c : Option (List ℕ)) (xs ys : List ℕ) → Appends a b xs → Appends b c ys → Appends a c (xs ++ ys)
+pub appends_both : (a b c : Option (List ℕ)) (xs ys : List ℕ) → Appends a b xs → Appends b c ys → Appends a c (xs ++ ys)
 appends_both None b c xs ys h k = tt
 appends_both (Some u) None c xs ys h k = absurd h
 appends_both (Some u) (Some v) None xs ys h k = absurd k
@@ -66,3 +67,21 @@ state_more bits seed n = let e : bits + n * bits ≡ (n + 1) * bits = omega arit
 
 pub drawn_long : (state n : ℕ) → length (drawn_bits state n) ≡ n
 drawn_long state n = length-map-range_with_len (drawn_bit state) 0 n
+
+folded_small : (x : ℕ) → x < 2 ^ 64 → folded_right 31 x < 2 ^ 64
+folded_small x h = xor_lt 64 x (x / 2 ^ 31) h (div_below x (2 ^ 31) (2 ^ 64) (pow_pos 31) (omega (arith, h)))
+
+drawn_small : (state : ℕ) → drawn state < 2 ^ 64
+drawn_small state = folded_small _ (mod_below _ (2 ^ 64) (pow_pos 64))
+
+bit_small : (state n : ℕ) → drawn_bit state n < 2
+unfolding drawn_bit
+bit_small state n = div_below (drawn (state_after n state)) (2 ^ 63) 2 (pow_pos 63) (drawn_small (state_after n state))
+
+range_small : (state a n : ℕ) → Bits (map (drawn_bit state) (range_with_len a n))
+range_small state a zero = tt
+range_small state a (suc n) = (bit_small state a, range_small state (a + 1) n)
+
+-- what is drawn is bits
+pub drawn_are_bits : (state n : ℕ) → Bits (drawn_bits state n)
+drawn_are_bits state n = range_small state 0 n

@@ -1,6 +1,6 @@
 -- Reading the blocks of a text a line at a time.
 -- Assumes nothing.
-use Rattle.std.specs.Prelude.{◌≡◌, ℕ, ◌+◌, Bool, true, false, cond, List, [], ◌∷◌, ◌++◌, Some, None, Ok, Err, Option, Result, if◌then◌else◌}
+use Rattle.std.specs.Prelude.{◌≡◌, ℕ, ◌+◌, Bool, true, false, cond, List, [], ◌∷◌, Some, Ok, Err, Option, Result, if◌then◌else◌}
 use Rattle.std.specs.Io.Iter.{bytes_left, bytes_remaining}
 use Rattle.bits_text.specs.Texts.{Says}
 use Rattle.bits_text.specs.Readings.{At}

@@ -7,9 +7,12 @@ use Rattle.air_text.specs.Lines.{air_text}
 use Rattle.bits_text.specs.Texts.{Says, block_line}
 use Rattle.channel.specs.Drawing.{state_after, drawn_bits}
 use Rattle.code.specs.Numbers.{bits_of}
+use Rattle.plan.specs.Faults.{chain_number}
 use Rattle.plan.specs.Scheme.{Scheme}
 use Rattle.scrambler.specs.Meaning.{Meaning}
 use Rattle.sender.specs.Transmission.{transmission}
+use Rattle.laboratory.specs.declared.trouble.Trouble.{Trouble}
+use Rattle.laboratory.specs.declared.trouble.Trouble.TheVariants.{Chain, Outside}
 
 -- the number behind n, in 64 bits
 abbrev pub count_on : ℕ → ℕ
@@ -42,6 +45,12 @@ drawn_blocks bits seed (suc n) = drawn_blocks bits seed n ++ (drawn_bits (state_
 pub record Cut (bits : ℕ) (text : List ℕ) (bs : List (List ℕ)) : Type 0 where
   pub long : AllByRecursion (λ b. length b ≡ bits) bs
   pub said : Says text (flat_map (λ b. b) bs)
+
+-- what is told where nothing can be sent: the number of a question, or that the output fails
+abbrev pub Unsent : ℕ → Trouble → Type 0
+Unsent answer (Chain fault) = chain_number fault ≡ answer
+Unsent answer (Outside error) = Unit {0}
+Unsent answer other = ⊥
 
 -- some blocks have been sent: their last number, and what has been written
 pub record Written (s : Scheme) (m : Meaning) (bs : List (List ℕ)) (number : ℕ) (w v c d : Option (List ℕ)) : Type 0 where

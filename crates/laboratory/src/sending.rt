@@ -1,13 +1,15 @@
 // Blocks of bits, sent as lines of on-air indices.
-ghost use Rattle.std.specs.Prelude.{◌≡◌, IfOk, OnOk, vec_len};
+ghost use Rattle.std.specs.Prelude.{◌≡◌, true, false, IfOk, IfErr, OnOk, vec_len};
 ghost use Rattle.std.specs.Io.KnownBytes.{Appends};
 ghost use Rattle.air_text.specs.Lines.{air_text};
 ghost use Rattle.bits_text.specs.Texts.{block_line};
 ghost use Rattle.code.specs.Numbers.{bits_of};
 ghost use Rattle.plan.specs.Plans.{plan_scheme};
+ghost use Rattle.sender.specs.Answers.{making_answer, send_answer};
+ghost use Rattle.sender.specs.Scrambling.{fits};
 ghost use Rattle.sender.specs.Senders.{sender_scheme};
 ghost use Rattle.sender.specs.Transmission.{symbols, transmission};
-ghost use Rattle.laboratory.specs.Sending.{count_on, on_air, bit_lines, drawn_blocks};
+ghost use Rattle.laboratory.specs.Sending.{count_on, on_air, bit_lines, drawn_blocks, Unsent};
 
 use crate::trouble::Trouble;
 use air_text::AirText;
@@ -34,6 +36,8 @@ impl<'p, S: Scrambler + Drop> Sending<'p, S> {
         ensures scheme { IfOk result (λ x. sender_scheme x.sender ≡ plan_scheme plan.now) }
         ensures meaning { IfOk result (λ x. S.meaning x.sender.scrambler ≡ S.meaning scrambler) }
         ensures none { IfOk result (λ x. x.blocks ≡ 0) }
+        ensures fit { IfOk result (λ x. fits (plan_scheme plan.now) (S.meaning scrambler) ≡ true) }
+        ensures refused { IfErr result (λ e. Unsent (making_answer (plan_scheme plan.now) (S.meaning scrambler) false) e) }
     {
         let sender = Sender::new(heap, plan, scrambler)?;
         let indices = vec![in heap; 0; plan.symbols()]?;
@@ -56,6 +60,7 @@ impl<'p, S: Scrambler + Drop> Sending<'p, S> {
         ensures number { OnOk result (self.new.blocks ≡ count_on self.old.blocks) }
         ensures air { OnOk result (Appends (W.contents output.old) (W.contents output.new) (air_text (count_on self.old.blocks) (transmission (sender_scheme self.old.sender) (S.meaning self.old.sender.scrambler) (bits_of block.now)))) }
         ensures bits { OnOk result (Appends (C.contents copy.old) (C.contents copy.new) (block_line block.now)) }
+        ensures refused { IfErr result (λ e. Unsent (send_answer (sender_scheme self.old.sender) (S.meaning self.old.sender.scrambler) block.now (symbols (sender_scheme self.old.sender))) e) }
     {
         self.sender.send(block, self.indices.as_mut_slice())?;
         self.blocks = self.blocks.saturating_add(1);
@@ -82,6 +87,7 @@ pub fn send_drawn<S: Scrambler + Drop, W: Write, C: Write>(
 ) -> Result<(), Trouble>
     ensures air { OnOk result (Appends (W.contents output.old) (W.contents output.new) (on_air (plan_scheme plan.now) (S.meaning scrambler) (drawn_blocks (plan_scheme plan.now).block seed blocks))) }
     ensures bits { OnOk result (Appends (C.contents copy.old) (C.contents copy.new) (bit_lines (drawn_blocks (plan_scheme plan.now).block seed blocks))) }
+    ensures refused { IfErr result (λ e. Unsent (making_answer (plan_scheme plan.now) (S.meaning scrambler) false) e) }
 {
     let mut sending = Sending::new(heap, plan, scrambler)?;
     let mut block = vec![in heap; 0; plan.parts().block_length]?;

@@ -1,9 +1,11 @@
 // The values of a scrambler.
-ghost use Rattle.std.specs.Prelude.{◌≡◌, ◌≤◌, true, is_ok, IfOk, if◌then◌else◌};
+ghost use Rattle.std.specs.Prelude.{◌≡◌, ℕ, ◌≤◌, true, ◌==◌, List, [], ◌∷◌, is_ok, IfOk, if◌then◌else◌};
+ghost use Rattle.std.specs.List.{before_first};
 ghost use Rattle.plan.specs.Faults.{chain_number, outcome};
 ghost use Rattle.plan.specs.Plans.{plan_scheme};
 ghost use Rattle.scrambler.specs.Meanings.{table_meaning};
 ghost use Rattle.scrambler.specs.Questions.{width_fits};
+ghost use Rattle.laboratory.specs.TableText.{line_words, WordsTaken, TableRead};
 ghost use Rattle.laboratory.specs.Tabling.{first_drawn, OfRegister};
 
 use crate::trouble::Trouble;
@@ -39,7 +41,9 @@ pub fn register_table(heap: Global, plan: &Plan) -> Result<Table, ChainFault>
 }
 
 // The values that a text has: whole numbers, white space between them, and comments from # to the end of a line.
-pub fn table_of<R: Read + Drop>(heap: Global, plan: &Plan, text: R) -> Result<Table, Trouble> {
+pub fn table_of<R: Read + Drop>(heap: Global, plan: &Plan, text: R) -> Result<Table, Trouble>
+    ensures { (xs : List ℕ) → R.remaining text ≡ Some xs → TableRead (plan_scheme plan.now) xs result }
+{
     let mut values = Vec::new(heap);
     let mut number = 0u64;
     for line in BufReader::new(heap, text)?.lines(heap) {
@@ -50,17 +54,33 @@ pub fn table_of<R: Read + Drop>(heap: Global, plan: &Plan, text: R) -> Result<Ta
     Ok(Table::new(width, values)?)
 }
 
-// The values of a line.
-fn take_values(values: &mut Vec<u8>, line: &str, number: u64) -> Result<(), Trouble> {
-    let said = match line.split_once('#') {
+// What stands in a line before any #.
+fn said(line: &str) -> &str
+    ensures { result.now ≡ before_first (λ c. c == 35) line.now }
+{
+    match line.split_once('#') {
         Some((before, _)) => before,
         None => line,
-    };
-    for word in said.split_ascii_whitespace() {
-        match word.parse::<u8>() {
-            Ok(value) => values.push(value)?,
-            Err(_) => return Err(Trouble::Value { line: number }),
-        }
+    }
+}
+
+// The values of a line.
+fn take_values(values: &mut Vec<u8>, line: &str, number: u64) -> Result<(), Trouble>
+    ensures { WordsTaken (line_words line.now) number values.old.items values.new.items result }
+{
+    for word in said(line).split_ascii_whitespace() {
+        take_word(values, word, number)?;
+    }
+    Ok(())
+}
+
+// The value of a word.
+fn take_word(values: &mut Vec<u8>, word: &str, number: u64) -> Result<(), Trouble>
+    ensures { WordsTaken (word.now ∷ []) number values.old.items values.new.items result }
+{
+    match word.parse::<u8>() {
+        Ok(value) => values.push(value)?,
+        Err(_) => return Err(Trouble::Value { line: number }),
     }
     Ok(())
 }

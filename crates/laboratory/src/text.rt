@@ -1,11 +1,12 @@
 // A text of bits, sent block by block.
-ghost use Rattle.std.specs.Prelude.{◌≡◌, ℕ, List, [], ◌∷◌, ◌++◌, Option, Some, IfOk, OnOk};
+ghost use Rattle.std.specs.Prelude.{◌≡◌, ℕ, ◌<◌, ◌≤◌, false, List, [], ◌∷◌, ◌++◌, length, Option, Some, IfOk, IfErr, MatchResult};
 ghost use Rattle.std.specs.Io.KnownBytes.{Appends};
 ghost use Rattle.plan.specs.Plans.{plan_scheme};
 ghost use Rattle.scrambler.specs.Meaning.{Meaning};
 ghost use Rattle.plan.specs.Scheme.{Scheme};
-ghost use Rattle.laboratory.specs.Sending.{on_air, bit_lines, Cut};
-ghost use Rattle.laboratory.specs.TextSending.{Holding};
+ghost use Rattle.sender.specs.Answers.{making_answer};
+ghost use Rattle.laboratory.specs.Sending.{on_air, bit_lines, Cut, Unsent};
+ghost use Rattle.laboratory.specs.TextSending.{Holding, TextRefused};
 
 use crate::sending::Sending;
 use crate::trouble::Trouble;
@@ -28,7 +29,9 @@ struct TextSending<'p, S: Scrambler> {
 
 impl<'p, S: Scrambler + Drop> TextSending<'p, S> {
     fn new(heap: Global, plan: &'p Plan, scrambler: S) -> Result<TextSending<'p, S>, Trouble>
-        ensures { (w c : Option (List ℕ)) → IfOk result (λ x. Holding S.meaning (plan_scheme plan.now) (S.meaning scrambler) x [] [] w w c c) }
+        ensures made { (w c : Option (List ℕ)) → IfOk result (λ x. Holding S.meaning (plan_scheme plan.now) (S.meaning scrambler) x [] [] w w c c) }
+        ensures none { IfOk result (λ x. x.block.items ≡ []) }
+        ensures refused { IfErr result (λ e. Unsent (making_answer (plan_scheme plan.now) (S.meaning scrambler) false) e) }
     {
         let sending = Sending::new(heap, plan, scrambler)?;
         Ok(TextSending {
@@ -46,8 +49,10 @@ impl<'p, S: Scrambler + Drop> TextSending<'p, S> {
         copy: &mut C,
     ) -> Result<(), Trouble>
         ensures { (s : Scheme) (m : Meaning) (text : List ℕ) (bs : List (List ℕ)) (w c : Option (List ℕ)) →
-            Holding S.meaning s m self.old text bs w (W.contents output.old) c (C.contents copy.old) →
-            OnOk result ((more : List (List ℕ)) × Holding S.meaning s m self.new text more w (W.contents output.new) c (C.contents copy.new)) }
+            Holding S.meaning s m self.old text bs w (W.contents output.old) c (C.contents copy.old) → length self.old.block.items ≤ s.block →
+            MatchResult result
+            (λ _. (more : List (List ℕ)) × Holding S.meaning s m self.new text more w (W.contents output.new) c (C.contents copy.new) × (length self.new.block.items < s.block))
+            (λ e. Unsent (making_answer s m false) e) }
     {
         if self.block.len() == self.length {
             self.sending.send(self.block.as_slice(), output, copy)?;
@@ -58,7 +63,7 @@ impl<'p, S: Scrambler + Drop> TextSending<'p, S> {
 
     // Nothing may be left over at the end.
     fn finish(&self) -> Result<(), Trouble>
-        ensures { OnOk result (self.now.block.items ≡ []) }
+        ensures { MatchResult result (λ _. self.now.block.items ≡ []) (λ e. (e ≡ Trouble.Unfinished (length self.now.block.items) self.now.length) × (0 < length self.now.block.items)) }
     {
         if self.block.is_empty() {
             return Ok(());
@@ -77,8 +82,10 @@ impl<'p, S: Scrambler + Drop> TextSending<'p, S> {
         copy: &mut C,
     ) -> Result<(), Trouble>
         ensures { (s : Scheme) (m : Meaning) (text : List ℕ) (bs : List (List ℕ)) (w c : Option (List ℕ)) →
-            Holding S.meaning s m self.old text bs w (W.contents output.old) c (C.contents copy.old) →
-            OnOk result ((more : List (List ℕ)) × Holding S.meaning s m self.new (text ++ byte ∷ []) more w (W.contents output.new) c (C.contents copy.new)) }
+            Holding S.meaning s m self.old text bs w (W.contents output.old) c (C.contents copy.old) → length self.old.block.items < s.block →
+            MatchResult result
+            (λ _. (more : List (List ℕ)) × Holding S.meaning s m self.new (text ++ byte ∷ []) more w (W.contents output.new) c (C.contents copy.new) × (length self.new.block.items < s.block))
+            (λ e. (after : List ℕ) → TextRefused s m (text ++ byte ∷ after) e) }
     {
         match self.reader.take(byte) {
             Ok(Some(bit)) => {
@@ -103,9 +110,11 @@ pub fn send_text<S: Scrambler + Drop, R: Read + Drop, W: Write, C: Write>(
     output: &mut W,
     copy: &mut C,
 ) -> Result<(), Trouble>
-    ensures { (xs : List ℕ) → R.remaining text ≡ Some xs → OnOk result ((bs : List (List ℕ)) × Cut (plan_scheme plan.now).block xs bs
+    ensures { (xs : List ℕ) → R.remaining text ≡ Some xs → MatchResult result
+        (λ _. (bs : List (List ℕ)) × Cut (plan_scheme plan.now).block xs bs
         × Appends (W.contents output.old) (W.contents output.new) (on_air (plan_scheme plan.now) (S.meaning scrambler) bs)
-        × Appends (C.contents copy.old) (C.contents copy.new) (bit_lines bs)) }
+        × Appends (C.contents copy.old) (C.contents copy.new) (bit_lines bs))
+        (λ e. TextRefused (plan_scheme plan.now) (S.meaning scrambler) xs e) }
 {
     let mut sending = TextSending::new(heap, plan, scrambler)?;
     for byte in text.bytes() {

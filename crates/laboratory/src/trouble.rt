@@ -1,4 +1,9 @@
 // What can go wrong, and how it is said.
+ghost use Rattle.std.specs.Prelude.{◌≡◌};
+ghost use Rattle.plan.specs.declared.fault.ChainFault.TheVariants.{OutOfMemory};
+ghost use Rattle.laboratory.specs.Troubles.{trouble_text};
+ghost use Rattle.laboratory.specs.declared.trouble.Trouble.TheVariants.{Chain, Outside};
+
 use bits_text::Stray;
 use plan::ChainFault;
 use std::alloc::{AllocError, AllocFailed};
@@ -20,6 +25,8 @@ pub enum Trouble {
 }
 
 impl fmt::Display for Trouble {
+    ghost output = { trouble_text };
+
     fn fmt<W: fmt::Write>(&self, f: &mut fmt::Formatter<W>) -> fmt::Result {
         match self {
             Trouble::Chain(fault) => {
@@ -42,24 +49,32 @@ impl fmt::Display for Trouble {
 }
 
 impl From<ChainFault> for Trouble {
+    ghost from_gives = { λ fault r. r ≡ Chain fault };
+
     fn from(fault: ChainFault) -> Trouble {
         Trouble::Chain(fault)
     }
 }
 
 impl From<io::Error> for Trouble {
+    ghost from_gives = { λ error r. r ≡ Outside error };
+
     fn from(error: io::Error) -> Trouble {
         Trouble::Outside(error)
     }
 }
 
 impl From<AllocError> for Trouble {
+    ghost from_gives = { λ _ r. r ≡ Chain OutOfMemory };
+
     fn from(_e: AllocError) -> Trouble {
         Trouble::Chain(ChainFault::OutOfMemory)
     }
 }
 
 impl<T: Drop> From<AllocFailed<T>> for Trouble {
+    ghost from_gives = { λ _ r. r ≡ Chain OutOfMemory };
+
     fn from(_e: AllocFailed<T>) -> Trouble {
         Trouble::Chain(ChainFault::OutOfMemory)
     }

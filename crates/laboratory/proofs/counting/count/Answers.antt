@@ -1,6 +1,6 @@
-use Rattle.std.proofs.Common.{◌≡◌, [], true, false, Ok, subst, sym, ap, ◌∙◌}
+use Rattle.std.proofs.Common.{[], true, false, Ok, subst, sym, ap, ◌∙◌}
 use Rattle.bits_text.specs.Blocks.{blocks}
-use Rattle.comparison.specs.Comparing.{nothing, with_pair, with_sent, with_shown, compared}
+use Rattle.comparison.specs.Comparing.{with_pair, compared}
 use Rattle.laboratory.specs.Counting.{Advanced}
 use Rattle.laboratory.proofs.counting.count.Goals as goal
 use Rattle.laboratory.proofs.counting.count.Goals.{in-true-true, in-true-false, in-false-true}

@@ -1,14 +1,17 @@
-use Rattle.std.proofs.Common.{◌≡◌, ◌+◌, ◌*◌, ◌<◌, ◌≤◌, [], ◌∷◌, ◌++◌, length, sym, refl, ap, ◌∙◌, subst, arith, rules}
+use Rattle.std.proofs.Common.{◌≡◌, false, ◌+◌, ◌*◌, [], ◌∷◌, ◌++◌, length, sym, ap, ◌∙◌, subst, arith, rules}
 use Rattle.std.specs.Io.KnownBytes.{Appends}
 use Rattle.std.proofs.lemmas.List.{with_items_is}
+use Rattle.std.proofs.lemmas.Result.{err_from_is_err_and}
 use Rattle.air_text.specs.Lines.{air_text}
-use Rattle.bits_text.specs.Texts.{block_line}
+use Rattle.bits_text.specs.Texts.{Bits}
 use Rattle.channel.specs.Drawing.{state_after, drawn_bits}
 use Rattle.code.specs.Numbers.{bits_of}
 use Rattle.plan.specs.Plans.{plan_scheme}
-use Rattle.sender.specs.Transmission.{transmission}
+use Rattle.sender.specs.Answers.{making_answer, send_answer}
+use Rattle.sender.specs.Transmission.{symbols, transmission}
 use Rattle.laboratory.specs.Sending.{Written, count_on, on_air, bit_lines, drawn_blocks}
-use Rattle.laboratory.proofs.Sent.{written_none, written_more, drawn_more, state_more, drawn_long}
+use Rattle.laboratory.proofs.Sent.{written_none, written_more, drawn_more, state_more, drawn_long, drawn_are_bits}
+use Rattle.laboratory.proofs.TextSent.{block_sent, not_sent}
 use Rattle.laboratory.proofs.sending.send_drawn.Goals as goal
 
 pub loop-sent-init : goal.loop-sent-init
@@ -54,6 +57,23 @@ loop-sent-preserved g c =
           (g.C.Write.contents c.send.new.copy))
           all more;
     }
+
+pub returns-in_err-send-clause-refused : goal.returns-in_err-send-clause-refused
+returns-in_err-send-clause-refused g c =
+    let i = c.loop-sent.invariant in
+    let s = plan_scheme c.args.plan.now in
+    let m = g.S.Scrambler.meaning c.args.scrambler in
+    let bits = c.args.plan.now.parts.block_length in
+    let state = state_after (c.loop-sent._sent * bits) c.args.seed in
+    let b = c.as_slice.result.now in
+    let long : length c.as_mut_slice.result.now ≡ bits = ap length c.as_mut_slice.ensures.value ∙ i.long in
+    let drawn : c.draw_bits.new.out ≡ drawn_bits state bits = c.draw_bits.ensures.bits ∙ (λ k. drawn_bits (i.state k) (long k)) in
+    let filled = with_items_is c.loop-sent.block c.draw_bits.new.out (c.draw_bits.auto.out ∙ c.as_mut_slice.ensures.len) in
+    let block : b ≡ drawn_bits state bits = c.as_slice.ensures.value ∙ filled ∙ drawn in
+    let zero = (λ k. send_answer (i.scheme k) (i.meaning k) b (symbols (i.scheme k)))
+    ∙ block_sent s m [] b c.in_ok-sending.ensures.fit (ap length block ∙ drawn_long state bits) (subst Bits (sym block) (drawn_are_bits state bits)) in
+    let p = err_from_is_err_and c.from_residual-in_err-send.result c.from_residual-in_err-send.ensures.1 in
+    rw (p.1, p.2) (not_sent _ (making_answer s m false) c.in_err-send.field-0.0 zero c.in_err-send.ensures.refused)
 
 pub returns-clause-air : goal.returns-clause-air
 returns-clause-air g c =

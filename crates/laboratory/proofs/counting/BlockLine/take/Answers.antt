@@ -1,4 +1,4 @@
-use Rattle.std.proofs.Common.{◌≡◌, Ok, subst, refl}
+use Rattle.std.proofs.Common.{Ok, subst, refl}
 use Rattle.std.specs.Prelude.{Some, None}
 use Rattle.bits_text.specs.Readings.{Taken}
 use Rattle.laboratory.proofs.Lines.{taken_bit, taken_none}

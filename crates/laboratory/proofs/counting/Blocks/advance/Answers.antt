@@ -1,4 +1,4 @@
-use Rattle.std.proofs.Common.{◌≡◌, [], true, false, Ok, subst, sym, refl, ap, ◌∙◌, length}
+use Rattle.std.proofs.Common.{[], true, false, Ok, subst, refl, ap, ◌∙◌}
 use Rattle.std.specs.Prelude.{◌==◌}
 use Rattle.laboratory.specs.Counting.{Stepped}
 use Rattle.laboratory.proofs.Lines.{advanced_end}

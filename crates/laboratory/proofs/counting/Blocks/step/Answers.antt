@@ -1,4 +1,4 @@
-use Rattle.std.proofs.Common.{◌≡◌, ◌+◌, ◌<◌, [], ◌∷◌, subst, sym, ap, ◌∙◌, cond, arith}
+use Rattle.std.proofs.Common.{◌≡◌, ◌+◌, [], ◌∷◌, subst, sym, ap, ◌∙◌, cond, arith}
 use Rattle.std.specs.Prelude.{IfOk, Some, if◌then◌else◌}
 use Rattle.std.specs.Io.Iter.{bytes_left, bytes_remaining}
 use Rattle.std.specs.Io.KnownBytes.{Consumes}
