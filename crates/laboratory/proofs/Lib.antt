@@ -1,6 +1,7 @@
 pub mod FirstLine
 pub mod Lines
 pub mod Listed
+pub mod Located
 pub mod Sent
 pub mod Tabled
 pub mod TextSent

@@ -1,13 +1,17 @@
 -- Reading the blocks of a text a line at a time.
 -- Assumes nothing.
-use Rattle.std.specs.Prelude.{◌≡◌, ℕ, ◌+◌, Bool, true, false, cond, List, [], ◌∷◌, Some, Ok, Err, Option, Result, if◌then◌else◌}
+use Rattle.std.specs.Prelude.{◌≡◌, ℕ, ◌+◌, ◌-◌, ◌^◌, ◌≤◌, max, ◌⊎◌, codes, length, Bool, true, false, cond, List, [], ◌∷◌, ◌++◌, Some, Ok, Err, Option, Result, if◌then◌else◌}
 use Rattle.std.specs.Io.Iter.{bytes_left, bytes_remaining}
 use Rattle.bits_text.specs.Texts.{Says}
 use Rattle.bits_text.specs.Readings.{At}
 use Rattle.bits_text.specs.Blocks.{blocks_from, blocks}
+use Rattle.bits_text.specs.declared.reader.BitsReader.{BitsReader}
+use Rattle.plan.specs.declared.fault.ChainFault.TheVariants.{OutOfMemory}
+use Rattle.laboratory.specs.Strays.{line_behind, StrayIn}
 use Rattle.laboratory.specs.declared.counting.BlockLine.{BlockLine}
 use Rattle.laboratory.specs.declared.counting.Blocks.{Blocks}
 use Rattle.laboratory.specs.declared.trouble.Trouble.{Trouble}
+use Rattle.laboratory.specs.declared.trouble.Trouble.TheVariants.{Chain, Bits, Endless, Outside}
 
 -- these bytes of the line in hand have come
 pub record Holds (b : BlockLine) (line : List ℕ) : Type 0 where
@@ -46,3 +50,34 @@ abbrev pub Advanced : {R : Type 0} → (R → Option (List ℕ)) → List ℕ �
 Advanced remaining xs new (Ok true) = (ys : List ℕ) × (left remaining new ≡ Some ys) × (blocks xs ≡ new.line.bits.items ∷ blocks ys)
 Advanced remaining xs new (Ok false) = (left remaining new ≡ Some []) × (blocks xs ≡ [])
 Advanced remaining xs new (Err e) = Unit {0}
+
+-- the reader stands behind this text, which says some bits, and knows its line
+pub record Behind (r : BitsReader) (text : List ℕ) : Type 0 where
+  pub place : At r text
+  pub bits : List ℕ
+  pub said : Says text bits
+  pub line : r.line ≡ line_behind 1 text
+
+-- so much of a whole text is read that the rest is what is still to come
+pub record Reads {R : Type 0} (remaining : R → Option (List ℕ)) (b : Blocks R) (whole : List ℕ) : Type 0 where
+  pub text : List ℕ
+  pub rest : List ℕ
+  pub left : left remaining b ≡ Some rest
+  pub cut : whole ≡ text ++ rest
+  pub behind : b.ended ≡ false → Behind b.line.reader text
+
+-- no comment goes on into what is still to come
+abbrev pub Clear : {R : Type 0} → Blocks R → Type 0
+Clear b = b.ended ≡ false → b.line.reader.in_comment ≡ false
+
+-- what is told where a text of this name cannot be read on: its first byte that is no bit, want of memory, or that it fails
+abbrev pub ReadRefused : List ℕ → List ℕ → Trouble → Type 0
+ReadRefused called text (Bits name stray) = (name.now ≡ called) × StrayIn text stray
+ReadRefused called text (Chain fault) = fault ≡ OutOfMemory
+ReadRefused called text (Outside error) = Unit {0}
+ReadRefused called text other = ⊥
+
+-- what is told where two texts are not counted: what is told of either, or that one has more blocks than 64 bits can count
+abbrev pub CountRefused : List ℕ → List ℕ → Trouble → Type 0
+CountRefused sent shown Endless = 2 ^ 64 - 1 ≤ max (length (blocks sent)) (length (blocks shown))
+CountRefused sent shown other = ReadRefused (codes "the first file") sent other ⊎ ReadRefused (codes "the second file") shown other

@@ -1,8 +1,8 @@
 // The errors of shown blocks against sent ones, read side by side.
-ghost use Rattle.std.specs.Prelude.{◌≡◌, ℕ, ◌<◌, ◌&&◌, ◌==◌, not, List, [], length, false, Some, IfOk};
+ghost use Rattle.std.specs.Prelude.{◌≡◌, ℕ, ◌<◌, ◌&&◌, ◌==◌, not, List, [], ◌∷◌, ◌++◌, length, true, false, Some, IfOk, MatchResult};
 ghost use Rattle.bits_text.specs.Blocks.{blocks};
 ghost use Rattle.comparison.specs.Comparing.{nothing, compared};
-ghost use Rattle.laboratory.specs.Counting.{Holds, LineTaken, left, steps_left, Stands, Stepped, Advanced};
+ghost use Rattle.laboratory.specs.Counting.{Holds, LineTaken, left, steps_left, Stands, Stepped, Advanced, Behind, Reads, Clear, ReadRefused, CountRefused};
 
 use crate::trouble::Trouble;
 use bits_text::BitsReader;
@@ -22,7 +22,10 @@ struct BlockLine {
 impl BlockLine {
     // The next byte begins a line.
     fn begin(&mut self)
-        ensures { Holds self.new [] }
+        ensures start { Holds self.new [] }
+        ensures clear { self.new.reader.in_comment ≡ false }
+        ensures line { self.new.reader.line ≡ self.old.reader.line }
+        ensures name { self.new.name.now ≡ self.old.name.now }
     {
         self.reader.begin_line();
         self.bits.clear();
@@ -37,7 +40,11 @@ impl BlockLine {
 
     // Goes past a byte. True where it ends a line that has bits.
     fn take(&mut self, byte: u8) -> Result<bool, Trouble>
-        ensures { (line : List ℕ) → Holds self.old line → LineTaken line byte self.new result }
+        ensures known { (line : List ℕ) → Holds self.old line → LineTaken line byte self.new result }
+        ensures read { (text : List ℕ) → Behind self.old.reader text → MatchResult result (λ _. Behind self.new.reader (text ++ byte ∷ []))
+            (λ e. (after : List ℕ) → ReadRefused self.old.name.now (text ++ byte ∷ after) e) }
+        ensures clear { (text : List ℕ) → Behind self.old.reader text → IfOk result (λ ends. ends ≡ true → self.new.reader.in_comment ≡ false) }
+        ensures name { self.new.name.now ≡ self.old.name.now }
     {
         match self.reader.take(byte) {
             Ok(Some(bit)) => {
@@ -64,7 +71,10 @@ struct Blocks<R: Read> {
 
 impl<R: Read + Drop> Blocks<R> {
     fn new(heap: Global, text: R, name: &'static str) -> Blocks<R>
-        ensures { left R.remaining result ≡ R.remaining text }
+        ensures left { left R.remaining result ≡ R.remaining text }
+        ensures read { (xs : List ℕ) → R.remaining text ≡ Some xs → Reads R.remaining result xs }
+        ensures clear { Clear result }
+        ensures name { result.line.name.now ≡ name.now }
     {
         Blocks {
             bytes: text.bytes(),
@@ -82,6 +92,9 @@ impl<R: Read + Drop> Blocks<R> {
         requires { self.old.ended ≡ false }
         ensures known { (line xs : List ℕ) → Stands R.remaining self.old line xs → Stepped R.remaining line xs self.new result }
         ensures fewer { IfOk result (λ _. steps_left self.new < steps_left self.old) }
+        ensures read { (whole : List ℕ) → Reads R.remaining self.old whole → MatchResult result (λ ends. Reads R.remaining self.new whole × (ends ≡ true → Clear self.new))
+            (λ e. ReadRefused self.old.line.name.now whole e) }
+        ensures name { self.new.line.name.now ≡ self.old.line.name.now }
     {
         match self.bytes.next() {
             Some(byte) => self.line.take(byte?),
@@ -94,7 +107,10 @@ impl<R: Read + Drop> Blocks<R> {
 
     // Goes on to the next line that has bits. False where there is none. The last line may lack its line feed.
     fn advance(&mut self) -> Result<bool, Trouble>
-        ensures { (xs : List ℕ) → left R.remaining self.old ≡ Some xs → Advanced R.remaining xs self.new result }
+        ensures known { (xs : List ℕ) → left R.remaining self.old ≡ Some xs → Advanced R.remaining xs self.new result }
+        ensures read { (whole : List ℕ) → Reads R.remaining self.old whole → Clear self.old → MatchResult result (λ _. Reads R.remaining self.new whole × Clear self.new)
+            (λ e. ReadRefused self.old.line.name.now whole e) }
+        ensures name { self.new.line.name.now ≡ self.old.line.name.now }
     {
         self.line.begin();
         while !self.ended {
@@ -118,7 +134,8 @@ pub fn count<R: Read + Drop, S: Read + Drop>(
     sent: R,
     shown: S,
 ) -> Result<Comparison, Trouble>
-    ensures { IfOk result (λ c. (xs ys : List ℕ) → R.remaining sent ≡ Some xs → S.remaining shown ≡ Some ys → c ≡ compared nothing (blocks xs) (blocks ys)) }
+    ensures { (xs ys : List ℕ) → R.remaining sent ≡ Some xs → S.remaining shown ≡ Some ys →
+        MatchResult result (λ c. c ≡ compared nothing (blocks xs) (blocks ys)) (λ e. CountRefused xs ys e) }
 {
     let mut sent = Blocks::new(heap, sent, "the first file");
     let mut shown = Blocks::new(heap, shown, "the second file");
