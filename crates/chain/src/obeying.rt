@@ -1,40 +1,55 @@
 // What each order does with the files and the streams.
+ghost use Rattle.std.specs.Prelude.{◌≡◌, OnOk};
+ghost use Rattle.std.specs.Option.{option_map};
+ghost use Rattle.plan.specs.Plans.{plan_scheme};
+ghost use Rattle.scrambler.specs.Meanings.{table_meaning};
+ghost use Rattle.chain.specs.Obeying.{copied, Sent, Counted};
+
 use crate::stop::Stop;
 use laboratory::{count, register_table, send_drawn, send_text, table_of, write_plan, write_rows};
-use orders::{Choice, Order, ScoreKind, Settings};
+use orders::{Choice, Drawing, Order, ScoreKind, Settings};
 use plan::Plan;
 use reception::{Reception, WrittenKind};
 use score::{CountFirst, Total, Worst};
 use scrambler::Table;
+use std::alloc::Global;
 use std::fs;
 use std::fs::File;
-use std::io::{BufReader, BufWriter, Write, sink, writer};
+use std::io::{BufReader, BufWriter, Read, Write, sink};
 
 // Where the blocks that are drawn go, if no other file is named.
 const DRAWN: &'static str = "sent.txt";
 
-pub(crate) fn obey<'a>(rt: &HostRuntime, order: Order<'a>) -> Result<(), Stop<'a>> {
+// Reads from the input, writes to the output, and says on the side how far it is.
+pub(crate) fn obey<'a, R: Read + Drop, W: Write, P: Write>(
+    rt: &HostRuntime,
+    order: Order<'a>,
+    input: R,
+    output: &mut W,
+    progress: &mut P,
+) -> Result<(), Stop<'a>> {
     match order {
-        Order::Rows => show_rows(rt)?,
-        Order::Plan(choice) => show_plan(rt, choice)?,
-        Order::Send { choice, settings } => send(rt, choice, settings)?,
-        Order::Receive { choice, settings } => receive(rt, choice, settings)?,
-        Order::Count { sent, shown } => show_count(rt, sent, shown)?,
+        Order::Rows => Ok(write_rows(output)?),
+        Order::Plan(choice) => show_plan(rt.alloc(), choice, output),
+        Order::Send { choice, settings } => send(rt, choice, settings, input, output),
+        Order::Receive { choice, settings } => {
+            receive(rt, choice, settings, input, output, progress)
+        }
+        Order::Count { sent, shown } => {
+            let sent = BufReader::new(rt.alloc(), opened(rt, sent)?)?;
+            let shown = BufReader::new(rt.alloc(), opened(rt, shown)?)?;
+            show_count(rt.alloc(), sent, shown, output)
+        }
     }
-    Ok(())
 }
 
-fn show_rows<'a>(rt: &HostRuntime) -> Result<(), Stop<'a>> {
-    let mut output = BufWriter::new(rt.alloc(), writer(rt))?;
-    write_rows(&mut output)?;
-    Ok(output.flush()?)
-}
-
-fn show_plan<'a>(rt: &HostRuntime, choice: Choice) -> Result<(), Stop<'a>> {
-    let plan = choice.row.plan(rt.alloc(), choice.constraint)?;
-    let mut output = BufWriter::new(rt.alloc(), writer(rt))?;
-    write_plan(&mut output, choice.row, &plan)?;
-    Ok(output.flush()?)
+fn show_plan<'a, W: Write>(
+    heap: Global,
+    choice: Choice,
+    output: &mut W,
+) -> Result<(), Stop<'a>> {
+    let plan = choice.row.plan(heap, choice.constraint)?;
+    Ok(write_plan(output, choice.row, &plan)?)
 }
 
 // A file that is read.
@@ -50,84 +65,211 @@ fn scrambler<'a>(rt: &HostRuntime, plan: &Plan, settings: Settings<'a>) -> Resul
     }
 }
 
-fn send<'a>(rt: &HostRuntime, choice: Choice, settings: Settings<'a>) -> Result<(), Stop<'a>> {
-    let plan = choice.row.plan(rt.alloc(), choice.constraint)?;
-    let table = scrambler(rt, &plan, settings)?;
-    let copy = match settings.drawing {
-        Some(_) => Some(settings.copy.unwrap_or(DRAWN)),
-        None => settings.copy,
-    };
-    match copy {
-        Some(name) => {
-            let file = fs::create(rt, name).map_err(|error| Stop::File { name, error })?;
-            let mut copy = BufWriter::new(rt.alloc(), file)?;
-            send_all(rt, &plan, table, settings, &mut copy)?;
-            Ok(copy.flush()?)
-        }
-        None => send_all(rt, &plan, table, settings, &mut sink()),
+// The file that the sent blocks are written to: the one that is named, and another one only for blocks that are drawn.
+fn copy_name<'a>(settings: Settings<'a>) -> Option<&'a str>
+    ensures { option_map (λ name. name.now) result ≡ copied settings }
+{
+    match (settings.drawing, settings.copy) {
+        (Some(_), None) => Some(DRAWN),
+        (_, copy) => copy,
     }
 }
 
-// Sends the blocks of the settings: drawn ones, or those of the input.
-fn send_all<'a, C: Write>(
+fn send<'a, R: Read + Drop, W: Write>(
     rt: &HostRuntime,
+    choice: Choice,
+    settings: Settings<'a>,
+    input: R,
+    output: &mut W,
+) -> Result<(), Stop<'a>> {
+    let plan = choice.row.plan(rt.alloc(), choice.constraint)?;
+    let table = scrambler(rt, &plan, settings)?;
+    match copy_name(settings) {
+        Some(name) => {
+            let file = fs::create(rt, name).map_err(|error| Stop::File { name, error })?;
+            let mut copy = BufWriter::new(rt.alloc(), file)?;
+            send_all(
+                rt.alloc(),
+                &plan,
+                table,
+                settings.drawing,
+                input,
+                output,
+                &mut copy,
+            )?;
+            Ok(copy.flush()?)
+        }
+        None => send_all(
+            rt.alloc(),
+            &plan,
+            table,
+            settings.drawing,
+            input,
+            output,
+            &mut sink(),
+        ),
+    }
+}
+
+// Sends blocks: drawn ones, or those of the input.
+fn send_all<'a, R: Read + Drop, W: Write, C: Write>(
+    heap: Global,
     plan: &Plan,
     table: Table,
-    settings: Settings<'a>,
+    drawing: Option<Drawing>,
+    input: R,
+    output: &mut W,
     copy: &mut C,
-) -> Result<(), Stop<'a>> {
-    let mut output = BufWriter::new(rt.alloc(), writer(rt))?;
-    match settings.drawing {
-        Some(drawing) => send_drawn(
-            rt.alloc(),
+) -> Result<(), Stop<'a>>
+    ensures { OnOk result (Sent (plan_scheme plan.now) (table_meaning table) drawing (R.remaining input) (W.contents output.old) (W.contents output.new) (C.contents copy.old) (C.contents copy.new)) }
+{
+    match drawing {
+        Some(drawing) => Ok(send_drawn(
+            heap,
             plan,
             table,
             drawing.blocks,
             drawing.seed,
-            &mut output,
+            output,
             copy,
-        )?,
-        None => {
-            let input = BufReader::new(rt.alloc(), rt.stdin())?;
-            send_text(rt.alloc(), plan, table, input, &mut output, copy)?
-        }
+        )?),
+        None => Ok(send_text(heap, plan, table, input, output, copy)?),
     }
-    Ok(output.flush()?)
 }
 
-fn receive<'a>(rt: &HostRuntime, choice: Choice, settings: Settings<'a>) -> Result<(), Stop<'a>> {
+fn receive<'a, R: Read + Drop, W: Write, P: Write>(
+    rt: &HostRuntime,
+    choice: Choice,
+    settings: Settings<'a>,
+    input: R,
+    output: &mut W,
+    progress: &mut P,
+) -> Result<(), Stop<'a>> {
     let plan = choice.row.plan(rt.alloc(), choice.constraint)?;
     let table = scrambler(rt, &plan, settings)?;
     match settings.score {
-        ScoreKind::Total => receive_by(rt, plan, table, Total),
-        ScoreKind::Worst => receive_by(rt, plan, table, Worst),
-        ScoreKind::CountFirst => receive_by(rt, plan, table, CountFirst),
+        ScoreKind::Total => receive_by(rt.alloc(), plan, table, Total, input, output, progress),
+        ScoreKind::Worst => receive_by(rt.alloc(), plan, table, Worst, input, output, progress),
+        ScoreKind::CountFirst => {
+            receive_by(rt.alloc(), plan, table, CountFirst, input, output, progress)
+        }
     }
 }
 
 // Answers the lines of the input by a kind of score.
-fn receive_by<'a, K: WrittenKind + Drop>(
-    rt: &HostRuntime,
+fn receive_by<'a, K: WrittenKind + Drop, R: Read + Drop, W: Write, P: Write>(
+    heap: Global,
     plan: Plan,
     table: Table,
     kind: K,
+    input: R,
+    output: &mut W,
+    progress: &mut P,
 ) -> Result<(), Stop<'a>> {
-    let mut reception = Reception::new(rt.alloc(), plan, table, kind)?;
-    let mut output = BufWriter::new(rt.alloc(), writer(rt))?;
-    let mut progress = rt.stderr();
-    reception::receive(
-        rt.alloc(),
+    let mut reception = Reception::new(heap, plan, table, kind)?;
+    Ok(reception::receive(
+        heap,
         &mut reception,
-        rt.stdin(),
-        &mut output,
-        &mut progress,
-    )?;
-    Ok(output.flush()?)
+        input,
+        output,
+        progress,
+    )?)
 }
 
-fn show_count<'a>(rt: &HostRuntime, sent: &'a str, shown: &'a str) -> Result<(), Stop<'a>> {
-    let sent = BufReader::new(rt.alloc(), opened(rt, sent)?)?;
-    let shown = BufReader::new(rt.alloc(), opened(rt, shown)?)?;
-    let comparison = count(rt.alloc(), sent, shown)?;
-    Ok(print!(rt; "{comparison}")?)
+// Writes what is counted of two texts.
+fn show_count<'a, R: Read + Drop, S: Read + Drop, W: Write>(
+    heap: Global,
+    sent: R,
+    shown: S,
+    output: &mut W,
+) -> Result<(), Stop<'a>>
+    ensures { OnOk result (Counted (R.remaining sent) (S.remaining shown) (W.contents output.old) (W.contents output.new)) }
+{
+    let comparison = count(heap, sent, shown)?;
+    Ok(write!(output, "{comparison}")?)
+}
+
+#[cfg(test)]
+mod tests {
+    use super::*;
+    use rows::Row;
+    use std::test::Fail;
+
+    // The shortest row.
+    const CHOICE: Choice = Choice {
+        row: Row {
+            bandwidth: 3,
+            waveform: 1,
+            interleaver: 0,
+        },
+        constraint: 7,
+    };
+
+    // What is said to an order.
+    fn said_to<'a>(rt: &HostRuntime, order: Order<'a>, input: &[u8]) -> Result<Vec<u8>, Fail> {
+        let mut said = Vec::new(rt.alloc());
+        match obey(rt, order, input, &mut said, &mut sink()) {
+            Ok(()) => Ok(said),
+            Err(_) => Err(Fail::new("the order is not obeyed")),
+        }
+    }
+
+    #[test]
+    fn plan_is_shown(rt: HostRuntime) -> Result<(), Fail> {
+        let said = said_to(&rt, Order::Plan(CHOICE), b"")?;
+        let expected =
+            "bandwidth 3\nwaveform 1\ninterleaver 0\nconstraint 7\nrate 1/8\nq 1\nframe_length 48\nB 24\nN 192\nsymbols 192\nincrement 25\nperiod 1\nsend_list 0 1 0 1 0 1 0 1\n";
+        assert_eq!(rt; said.as_slice(), expected.as_bytes());
+        Ok(())
+    }
+
+    // A block on the air is a comment and 192 lines.
+    #[test]
+    fn block_is_sent(rt: HostRuntime) -> Result<(), Fail> {
+        let order = Order::Send {
+            choice: CHOICE,
+            settings: Settings::none(),
+        };
+        let said = said_to(&rt, order, b"000000000000000000000000\n")?;
+        assert!(rt; said.as_slice().starts_with(b"# block 1\n0 1\n"));
+        let lines = said.as_slice().split(|byte| *byte == b'\n').count();
+        assert_eq!(rt; lines, 194);
+        Ok(())
+    }
+
+    // The first coded bit is sent at the locations 0, 50, 100 and 150: once as 0, and twice, with less, as 1.
+    #[test]
+    fn scores_are_of_the_kind(rt: HostRuntime) -> Result<(), Fail> {
+        let heard = b"note 0 5\nnote 50 -3\nnote 100 -4";
+        for (score, shown) in [
+            (ScoreKind::Total, "# score 5\n"),
+            (ScoreKind::Worst, "# score 4\n"),
+            (ScoreKind::CountFirst, "# score 1 5\n"),
+        ] {
+            let mut settings = Settings::none();
+            settings.score = score;
+            let order = Order::Receive {
+                choice: CHOICE,
+                settings,
+            };
+            let said = said_to(&rt, order, heard)?;
+            assert!(rt; said.as_slice().starts_with(shown.as_bytes()));
+        }
+        Ok(())
+    }
+
+    // Two blocks that differ at one place, and one that is shown alone.
+    #[test]
+    fn errors_are_counted(rt: HostRuntime) -> Result<(), Fail> {
+        let mut said = Vec::new(rt.alloc());
+        let sent = b"011\n100\n".as_slice();
+        let shown = b"010\n100\n111\n".as_slice();
+        if show_count(rt.alloc(), sent, shown, &mut said).is_err() {
+            return Err(Fail::new("no count"));
+        }
+        let expected =
+            "# blocks bits bit_errors block_errors\n2 6 1 1\n# blocks shown and not sent: 1\n";
+        assert_eq!(rt; said.as_slice(), expected.as_bytes());
+        Ok(())
+    }
 }

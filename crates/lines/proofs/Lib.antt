@@ -4,3 +4,4 @@ pub mod Parsed
 pub mod Written
 pub mod Keeping
 pub mod Unique
+pub mod Nexts

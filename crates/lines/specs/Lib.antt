@@ -6,3 +6,4 @@ pub mod Answers
 pub mod Inputs
 pub mod Plans
 pub mod Laws
+pub mod Streams

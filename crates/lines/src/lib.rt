@@ -11,6 +11,7 @@ mod input;
 mod law;
 mod reading;
 mod room;
+mod stream;
 mod writing;
 
 pub use accept::accept_plan;
@@ -21,6 +22,7 @@ pub use input::Line;
 pub use law::one_reading_holds;
 pub use reading::parse;
 pub use room::LineRoom;
+pub use stream::Lines;
 pub use writing::answer_text;
 
 #[cfg(test)]

@@ -1,41 +1,30 @@
 // Answering a stream of lines, one line in memory at a time.
-ghost use Rattle.std.specs.Prelude.{◌≡◌, ℕ, List, OnOk};
+ghost use Rattle.std.specs.Prelude.{◌≡◌, ℕ, ◌-◌, ◌^◌, List, take, Some, OnOk};
 ghost use Rattle.std.specs.Io.KnownBytes.{Appends};
 ghost use Rattle.lines.specs.Inputs.{kept_of};
+ghost use Rattle.lines.specs.Streams.{lines_of, left};
 ghost use Rattle.receiver.specs.Receivers.{view_of};
 ghost use Rattle.replay.specs.Given.{given};
-ghost use Rattle.reception.specs.Receiving.{Replied, Received, Last, ReceivedAll};
+ghost use Rattle.reception.specs.Receiving.{announcement, Replied, Received, Last, ReceivedAll};
 ghost use Rattle.reception.specs.Written.{shown_text};
 
 use crate::reception::Reception;
 use crate::shown::Shown;
 use crate::written::WrittenKind;
 use entries::{Entry, Refusal, read_line};
-use lines::Line;
+use lines::{Line, Lines};
 use scrambler::Scrambler;
 use std::alloc::Global;
 use std::io;
-use std::io::{BufReader, Bytes, Read, Write};
+use std::io::{BufReader, Read, Write};
 
 // A look of a block of so many bits is announced.
 const LONG: usize = 10_000;
 
-// Reads the next line, without its line feed. False where nothing follows the last line feed.
-fn next_line<R: Read + Drop>(input: &mut Bytes<R>, line: &mut Line) -> io::Result<bool>
-    ensures { (whole : List ℕ) × (line.new.kept.items ≡ kept_of whole) }
-{
-    line.clear();
-    for byte in input {
-        match byte? {
-            b'\n' => return Ok(true),
-            byte => line.push(byte)?,
-        }
-    }
-    Ok(!line.is_empty())
-}
-
 // Says that a look begins, where the block is long.
-fn announce<P: Write>(bits: usize, progress: &mut P) -> io::Result<()> {
+fn announce<P: Write>(bits: usize, progress: &mut P) -> io::Result<()>
+    ensures { OnOk result (Appends (P.contents progress.old) (P.contents progress.new) (announcement bits)) }
+{
     if bits >= LONG {
         write!(progress, "looking for the best block of {bits} bits\n")?;
     }
@@ -97,23 +86,24 @@ fn show_last<S: Scrambler + Drop, K: WrittenKind + Drop, W: Write>(
     write_shown(reception, score, output)
 }
 
-// Answers every line of the input.
+// Answers every line, as many as 64 bits can count.
 fn answer_all<S: Scrambler + Drop, K: WrittenKind + Drop, R: Read + Drop, W: Write, P: Write>(
     reception: &mut Reception<S, K>,
-    input: &mut Bytes<R>,
-    line: &mut Line,
+    lines: &mut Lines<R>,
     output: &mut W,
     progress: &mut P,
 ) -> io::Result<()>
-    ensures received { let v = view_of S.meaning reception.old.receiver in let w = given reception.old.values.items reception.old.block.items reception.old.scores.items reception.old.marks.items in let k = K.Kind.scale reception.old.kind in OnOk result ((lines : List (List ℕ)) × (text : List ℕ) × Received k K.written v w 1 lines reception.old.values.items reception.new.values.items text × Appends (W.contents output.old) (W.contents output.new) text) }
+    ensures received { let v = view_of S.meaning reception.old.receiver in let w = given reception.old.values.items reception.old.block.items reception.old.scores.items reception.old.marks.items in let k = K.Kind.scale reception.old.kind in OnOk result ((each : List (List ℕ)) × (text : List ℕ) × Received k K.written v w 1 each reception.old.values.items reception.new.values.items text × Appends (W.contents output.old) (W.contents output.new) text
+        × ((input : List ℕ) → left R.remaining lines.old ≡ Some input → each ≡ take (2 ^ 64 - 1) (lines_of input))) }
     ensures kept { view_of S.meaning reception.new.receiver ≡ view_of S.meaning reception.old.receiver }
     ensures kind { reception.new.kind ≡ reception.old.kind }
     ensures lengths { given reception.new.values.items reception.new.block.items reception.new.scores.items reception.new.marks.items ≡ given reception.old.values.items reception.old.block.items reception.old.scores.items reception.old.marks.items }
 {
     for number in 0..u64::MAX {
-        if !next_line(input, line)? {
-            break;
+        if !lines.advance()? {
+            return Ok(());
         }
+        let line = lines.line();
         if is_look(line) {
             output.flush()?;
             announce(reception.block().len(), progress)?;
@@ -131,11 +121,11 @@ pub fn receive<S: Scrambler + Drop, K: WrittenKind + Drop, R: Read + Drop, W: Wr
     output: &mut W,
     progress: &mut P,
 ) -> io::Result<()>
-    ensures { let v = view_of S.meaning reception.old.receiver in let w = given reception.old.values.items reception.old.block.items reception.old.scores.items reception.old.marks.items in let k = K.Kind.scale reception.old.kind in OnOk result ((text : List ℕ) × ReceivedAll k K.written v w reception.old.values.items text × Appends (W.contents output.old) (W.contents output.new) text) }
+    ensures { let v = view_of S.meaning reception.old.receiver in let w = given reception.old.values.items reception.old.block.items reception.old.scores.items reception.old.marks.items in let k = K.Kind.scale reception.old.kind in OnOk result ((text : List ℕ) × ReceivedAll k K.written v w (R.remaining input) reception.old.values.items text × Appends (W.contents output.old) (W.contents output.new) text) }
 {
-    let mut bytes = BufReader::new(heap, input)?.bytes();
-    let mut line = Line::new(heap);
-    answer_all(reception, &mut bytes, &mut line, output, progress)?;
+    let reader = BufReader::new(heap, input)?;
+    let mut lines = Lines::new(heap, reader);
+    answer_all(reception, &mut lines, output, progress)?;
     announce(reception.block().len(), progress)?;
     show_last(reception, output)?;
     output.flush()

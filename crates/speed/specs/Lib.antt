@@ -1,1 +1,4 @@
 pub mod Measuring
+pub mod Values
+pub mod Times
+pub mod Asking

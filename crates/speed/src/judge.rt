@@ -1,4 +1,7 @@
 // The kinds of score by name, and a score of any kind.
+ghost use Rattle.std.specs.Prelude.{Some};
+ghost use Rattle.speed.specs.Measuring.{score_text};
+
 use score::Tally;
 use std::fmt;
 
@@ -30,6 +33,8 @@ pub enum Score {
 
 // Of Count-first the count and the total.
 impl fmt::Display for Score {
+    ghost output = { λ s. Some (score_text s) };
+
     fn fmt<W: fmt::Write>(&self, f: &mut fmt::Formatter<W>) -> fmt::Result {
         match *self {
             Score::Total(total) => write!(f, "{total}"),

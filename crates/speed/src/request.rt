@@ -1,6 +1,8 @@
 // What the arguments ask for.
+ghost use Rattle.std.specs.Prelude.{IfOk};
+ghost use Rattle.speed.specs.Asking.{Number, Names, bytes_of, Asks};
+
 use crate::trouble::Slip;
-use std::str::FromStr;
 
 pub enum Request {
     // the same few blocks always, without a clock
@@ -26,7 +28,9 @@ pub struct Batch {
 }
 
 // The request of these arguments: a word, and for some words a batch.
-pub(crate) fn request_of(words: &[String]) -> Result<Request, Slip> {
+pub(crate) fn request_of(words: &[String]) -> Result<Request, Slip>
+    ensures { IfOk result (λ r. Asks (bytes_of words.now) r) }
+{
     let [word, rest @ ..] = words else {
         return Ok(Request::Fixed);
     };
@@ -39,23 +43,41 @@ pub(crate) fn request_of(words: &[String]) -> Result<Request, Slip> {
     }
 }
 
-fn batch_of(words: &[String]) -> Result<Batch, Slip> {
+// The batch that five words name.
+fn batch_of(words: &[String]) -> Result<Batch, Slip>
+    ensures { IfOk result (λ b. Names (bytes_of words.now) b) }
+{
     let [constraint, block_length, decibels, blocks, seed] = words else {
         return Err(Slip::Count);
     };
+    let constraint = number(constraint.as_str(), "constraint length")? as usize;
+    let block_length = number(block_length.as_str(), "block length")? as usize;
+    let decibels = ratio(decibels.as_str())?;
+    let blocks = number(blocks.as_str(), "count of blocks")? as usize;
+    let seed = number(seed.as_str(), "seed")?;
     Ok(Batch {
-        constraint: number(constraint.as_str(), "constraint length")?,
-        block_length: number(block_length.as_str(), "block length")?,
-        decibels: number(decibels.as_str(), "ratio")?,
-        blocks: number(blocks.as_str(), "count of blocks")?,
-        seed: number(seed.as_str(), "seed")?,
+        constraint,
+        block_length,
+        decibels,
+        blocks,
+        seed,
     })
 }
 
-// The number that a word writes, of the type that is asked for.
-fn number<T: FromStr>(word: &str, name: &'static str) -> Result<T, Slip>
-where
-    T::Err: Drop,
+// The number that a word writes. What it is called comes into the slip.
+fn number(word: &str, name: &'static str) -> Result<u64, Slip>
+    ensures { IfOk result (λ n. Number word.now n) }
 {
-    word.parse::<T>().map_err(|_| Slip::Number(name))
+    match word.parse::<u64>() {
+        Ok(n) => Ok(n),
+        Err(_) => Err(Slip::Number(name)),
+    }
+}
+
+// The decibels that a word writes.
+fn ratio(word: &str) -> Result<i8, Slip> {
+    match word.parse::<i8>() {
+        Ok(decibels) => Ok(decibels),
+        Err(_) => Err(Slip::Number("ratio")),
+    }
 }

@@ -1,8 +1,9 @@
 // Noisy blocks, always the same for the same seed.
 ghost use Rattle.std.specs.Prelude.{◌≡◌, ◌≤◌, IfOk, length, unsigned_abs, vec_len};
-ghost use Rattle.channel.specs.Drawing.{drawn_bits};
+ghost use Rattle.channel.specs.Drawing.{drawn_bits, state_after};
 ghost use Rattle.plan.specs.Plans.{plan_scheme};
 ghost use Rattle.plan.specs.Scheme.{sent_length};
+ghost use Rattle.speed.specs.Values.{heard_value, spread};
 
 use channel::{Air, Generator};
 use code::{encode, load};
@@ -34,11 +35,9 @@ impl Source {
         ensures { result.generator.state ≡ seed }
     {
         let air = Air::new(seed, decibels);
-        let sent = nearest_usize_to_f64(plan.sent_length());
-        let bits = nearest_usize_to_f64(plan.parts().block_length);
         Source {
             generator: air.generator,
-            noise: air.noise * (sent / bits).sqrt(),
+            noise: air.noise * spread(plan),
         }
     }
 
@@ -66,12 +65,24 @@ impl Source {
 
     // What is heard of a bit: positive for 0, negative for 1, where the noise is weaker.
     fn value_of(&mut self, bit: bool) -> i16
-        ensures { unsigned_abs result ≤ 127 }
+        ensures value { result ≡ heard_value self.old.noise self.old.generator.state bit }
+        ensures within { unsigned_abs result ≤ 127 }
+        ensures after { self.new.generator.state ≡ state_after 12 self.old.generator.state }
+        ensures kept { self.new.noise ≡ self.old.noise }
     {
         let point = if bit { -1.0 } else { 1.0 };
         let heard = point + self.noise * self.generator.draw_normal();
         saturating_f64_to_i16((heard * AMPLITUDE).round()).clamp(-127, 127)
     }
+}
+
+// How much stronger the noise is against the bits of a block than against the sent ones.
+fn spread(plan: &Plan) -> f64
+    ensures { result ≡ spread (plan_scheme plan.now) }
+{
+    let sent = nearest_usize_to_f64(plan.sent_length());
+    let bits = nearest_usize_to_f64(plan.parts().block_length);
+    (sent / bits).sqrt()
 }
 
 // The bits that are sent for a block, by their locations.

@@ -1,4 +1,7 @@
 // Looks by the clock.
+ghost use Rattle.std.specs.Prelude.{◌≡◌};
+ghost use Rattle.speed.specs.Times.{with_look, rate, look_time, look_trips, bit_time};
+
 use crate::decoder::{Decoder, Look};
 use crate::judge::Judge;
 use crate::source::Source;
@@ -16,26 +19,37 @@ pub struct Taken {
 }
 
 impl Taken {
-    fn add(&mut self, look: Look, seconds: f64) {
+    // One look more.
+    fn add(&mut self, look: Look, seconds: f64)
+        ensures { self.new ≡ with_look self.old look.trips seconds }
+    {
         self.looks = self.looks.saturating_add(1);
         self.trips = self.trips.saturating_add(look.trips as u64);
         self.seconds += seconds;
     }
 
-    pub(crate) fn looks_in_a_second(&self) -> f64 {
+    pub(crate) fn looks_in_a_second(&self) -> f64
+        ensures { result ≡ rate self.now }
+    {
         nearest_u64_to_f64(self.looks) / self.seconds
     }
 
-    pub(crate) fn microseconds_of_a_look(&self) -> f64 {
+    pub(crate) fn microseconds_of_a_look(&self) -> f64
+        ensures { result ≡ look_time self.now }
+    {
         self.seconds * 1e6 / nearest_u64_to_f64(self.looks)
     }
 
-    pub(crate) fn trips_of_a_look(&self) -> f64 {
+    pub(crate) fn trips_of_a_look(&self) -> f64
+        ensures { result ≡ look_trips self.now }
+    {
         nearest_u64_to_f64(self.trips) / nearest_u64_to_f64(self.looks)
     }
 
     // The nanoseconds that a trip takes for each bit of the block.
-    pub(crate) fn nanoseconds_of_a_bit(&self, block_length: usize) -> f64 {
+    pub(crate) fn nanoseconds_of_a_bit(&self, block_length: usize) -> f64
+        ensures { result ≡ bit_time self.now block_length }
+    {
         self.seconds * 1e9 / nearest_u64_to_f64(self.trips) / nearest_usize_to_f64(block_length)
     }
 }

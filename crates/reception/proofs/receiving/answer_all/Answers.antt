@@ -1,10 +1,11 @@
-use Rattle.std.proofs.Common.{◌≡◌, ◌+◌, [], ◌∷◌, ◌++◌, length, sym, ◌∙◌, subst, arith}
+use Rattle.std.proofs.Common.{◌≡◌, ◌+◌, ◌-◌, ◌^◌, ◌<◌, ◌≤◌, [], ◌∷◌, ◌++◌, length, true, false, Ok, sym, ap, ◌∙◌, subst, append_assoc, arith, rules}
 use Rattle.std.proofs.lemmas.List.{length_push}
 use Rattle.std.specs.Io.KnownBytes.{Appends}
+use Rattle.lines.specs.Streams.{lines_of, left, NextLine}
 use Rattle.receiver.specs.Receivers.{view_of}
 use Rattle.replay.specs.Given.{given}
 use Rattle.reception.specs.Receiving.{Replied}
-use Rattle.reception.proofs.Received.{appends_both, then_keeps, received_more}
+use Rattle.reception.proofs.Received.{appends_both, then_keeps, all_lines, first_lines, received_more}
 use Rattle.reception.proofs.receiving.answer_all.Goals as goal
 use Rattle.reception.proofs.receiving.answer_all.Goals.{then-is_look+in_ok-flush+in_ok-announce, else-is_look}
 
@@ -19,13 +20,15 @@ loop-number-preserved g c =
     let w = given x.values.items x.block.items x.scores.items x.marks.items in
     let inv = c.loop-number.invariant in
     let a = inv.answered in
-    let n = c.next_line.ensures in
-    let r = c.in_ok-answer.ensures.replied n.0 n.1 in
-    let left = c.answer.new.reception.values.items in
-    let by_kind = subst (λ q. Replied (scale q) written (view_of g.S.Scrambler.meaning y.receiver) (given y.values.items y.block.items y.scores.items y.marks.items) (c.loop-number.number + 1) n.0 y.values.items left r.0) inv.kind r.1 in
-    let by_view = subst (λ q. Replied (scale x.kind) written q (given y.values.items y.block.items y.scores.items y.marks.items) (c.loop-number.number + 1) n.0 y.values.items left r.0) inv.kept by_kind in
-    let by_lengths = subst (λ q. Replied (scale x.kind) written v q (c.loop-number.number + 1) n.0 y.values.items left r.0) inv.lengths by_view in
-    let by_number = subst (λ m. Replied (scale x.kind) written v w m n.0 y.values.items left r.0) (let e : c.loop-number.number + 1 ≡ 1 + length a.0 = omega (arith, a.2) in e) by_lengths in
+    let remaining = g.R.Read.remaining in
+    let n : NextLine (left remaining c.loop-number.lines) (left remaining c.advance.new.self) c.advance.new.self.line.kept.items (Ok true) =
+    subst (NextLine (left remaining c.loop-number.lines) (left remaining c.advance.new.self) c.advance.new.self.line.kept.items) (c.in_ok-advance.was ∙ ap Ok c.if-branch.false) c.advance.ensures in
+    let r = c.in_ok-answer.ensures.replied n.0 (c.line-line.ensures ∙ n.1) in
+    let now = c.answer.new.reception.values.items in
+    let by_kind = subst (λ q. Replied (scale q) written (view_of g.S.Scrambler.meaning y.receiver) (given y.values.items y.block.items y.scores.items y.marks.items) (c.loop-number.number + 1) n.0 y.values.items now r.0) inv.kind r.1 in
+    let by_view = subst (λ q. Replied (scale x.kind) written q (given y.values.items y.block.items y.scores.items y.marks.items) (c.loop-number.number + 1) n.0 y.values.items now r.0) inv.kept by_kind in
+    let by_lengths = subst (λ q. Replied (scale x.kind) written v q (c.loop-number.number + 1) n.0 y.values.items now r.0) inv.lengths by_view in
+    let by_number = subst (λ m. Replied (scale x.kind) written v w m n.0 y.values.items now r.0) (let e : c.loop-number.number + 1 ≡ 1 + length a.0 = omega (arith, a.2) in e) by_lengths in
     let upto : Appends (contents c.args.output.now) (contents c.if-is_look.output) a.1 =
     elim c.if-is_look.branch [
       | then-is_look+in_ok-flush+in_ok-announce b ↦ subst (λ o. Appends (contents c.args.output.now) (contents o) a.1) (sym b.output-is) (then_keeps _ _ _ a.1 a.4 b.flush.ensures.bytes)
@@ -36,10 +39,29 @@ loop-number-preserved g c =
         a.0 ++ (n.0 ∷ []),
         a.1 ++ r.0,
         omega (arith, a.2, length_push a.0 n.0),
-        received_more (scale x.kind) written v w 1 a.0 n.0 x.values.items y.values.items left a.1 r.0 a.3 by_number,
+        received_more (scale x.kind) written v w 1 a.0 n.0 x.values.items y.values.items now a.1 r.0 a.3 by_number,
         appends_both _ _ _ a.1 r.0 upto r.2,
+        λ input e. let i = a.5 input e in
+        let k = n.2 i.0 i.1 in
+        (k.0, k.1, i.2 ∙ ap (λ l. a.0 ++ l) k.2 ∙ sym (append_assoc a.0 (n.0 ∷ []) (lines_of k.0))),
       );
       kept = c.in_ok-answer.ensures.kept ∙ inv.kept;
       kind = c.in_ok-answer.ensures.kind ∙ inv.kind;
       lengths = c.in_ok-answer.ensures.lengths ∙ inv.lengths;
     }
+
+pub returns-then-branch-clause-received : goal.returns-then-branch-clause-received
+returns-then-branch-clause-received g c =
+    let remaining = g.R.Read.remaining in
+    let a = c.loop-number.invariant.answered in
+    let near : c.loop-number.number < 2 ^ 64 - 1 = search rules in
+    let few : length a.0 ≤ 2 ^ 64 - 1 = omega (arith, a.2, near) in
+    let n : NextLine (left remaining c.loop-number.lines) (left remaining c.advance.new.self) c.advance.new.self.line.kept.items (Ok false) =
+    subst (NextLine (left remaining c.loop-number.lines) (left remaining c.advance.new.self) c.advance.new.self.line.kept.items) (c.in_ok-advance.was ∙ ap Ok c.if-branch.true) c.advance.ensures in
+    (a.0, a.1, a.3, a.4, λ input e. let i = a.5 input e in all_lines (2 ^ 64 - 1) (lines_of input) a.0 (lines_of i.0) i.2 (n i.0 i.1) few)
+
+pub returns-clause-received : goal.returns-clause-received
+returns-clause-received g c =
+    let a = c.loop-number.invariant.answered in
+    let done : c.loop-number.number ≡ 2 ^ 64 - 1 = search rules in
+    (a.0, a.1, a.3, a.4, λ input e. let i = a.5 input e in first_lines (2 ^ 64 - 1) (lines_of input) a.0 (lines_of i.0) i.2 (a.2 ∙ done))
