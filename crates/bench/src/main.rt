@@ -1,30 +1,20 @@
 // The bench: reads lines from standard input, and answers each.
 #![tactic(auto)]
 
-ghost use Rattle.std.specs.Prelude.{◌≡◌, ℕ, ◌⊎◌, List};
+ghost use Rattle.std.specs.Prelude.{◌≡◌, ℕ, List, OnOk};
+ghost use Rattle.std.specs.Io.KnownBytes.{Appends};
+ghost use Rattle.bench.specs.Answering.{Replied, AnsweredAll};
+ghost use Rattle.lines.specs.Answers.{answer_text};
 ghost use Rattle.lines.specs.Inputs.{kept_of};
-ghost use Rattle.lines.specs.declared.answer.Answer.TheVariants.{Refused};
-ghost use Rattle.session.specs.Said.{Answers};
+ghost use Rattle.lines.specs.Streams.{left};
+ghost use Rattle.lines.specs.declared.answer.Answer.{Answer as TheAnswer};
 ghost use Rattle.session.specs.Sessions.{held};
 
-use lines::{Answer, Line, LineFault, LineRoom, answer_text};
+use lines::{Answer, Line, LineFault, LineRoom, Lines, answer_text};
 use session::{CommandRoom, Session};
 use std::alloc::{AllocError, Global};
 use std::io;
-use std::io::{BufReader, Bytes, Read, Write};
-
-// Reads the next line, without its line feed. False where nothing follows the last line feed: the
-// line's memory is used again, so a flag says whether there is one.
-fn read_line<R: Read + Drop>(input: &mut Bytes<R>, line: &mut Line) -> io::Result<bool> {
-    line.clear();
-    for byte in input {
-        match byte? {
-            b'\n' => return Ok(true),
-            byte => line.push(byte)?,
-        }
-    }
-    Ok(!line.is_empty())
-}
+use std::io::{BufReader, Read, Write};
 
 // The room for one line.
 fn rooms(heap: Global) -> Result<(LineRoom, CommandRoom), AllocError> {
@@ -33,7 +23,7 @@ fn rooms(heap: Global) -> Result<(LineRoom, CommandRoom), AllocError> {
 
 // The answer to the line with this number. Where there is no room for it, it is refused.
 fn answer(heap: Global, session: &mut Session, line: &Line, number: u16) -> Answer
-    ensures { (text : List ℕ) → line.now.kept.items ≡ kept_of text → Answers (held session.old) text number result (held session.new) ⊎ ((result ≡ Refused 255 number) × (held session.new ≡ held session.old)) }
+    ensures { (text : List ℕ) → line.now.kept.items ≡ kept_of text → Replied number text (held session.old) (held session.new) result }
 {
     match rooms(heap) {
         Ok((reading, room)) => session.answer(line, number, reading, room),
@@ -44,28 +34,43 @@ fn answer(heap: Global, session: &mut Session, line: &Line, number: u16) -> Answ
     }
 }
 
+// Writes the answer to the line with this number.
+fn write_answer<W: Write>(
+    heap: Global,
+    session: &mut Session,
+    line: &Line,
+    number: u16,
+    output: &mut W,
+) -> io::Result<()>
+    ensures { (text : List ℕ) → line.now.kept.items ≡ kept_of text → OnOk result ((reply : TheAnswer) × Replied number text (held session.old) (held session.new) reply × Appends (W.contents output.old) (W.contents output.new) (answer_text reply)) }
+{
+    let answer = answer(heap, session, line, number);
+    let text = answer_text(heap, &answer)?;
+    output.write_all(text.as_str().as_bytes())
+}
+
 // Answers each line, as many as 16 bits can count; what follows is ignored.
 fn answer_lines<R: Read + Drop, W: Write>(
     heap: Global,
-    input: &mut Bytes<R>,
+    lines: &mut Lines<R>,
     output: &mut W,
-) -> io::Result<()> {
+) -> io::Result<()>
+    ensures { OnOk result ((text : List ℕ) × AnsweredAll (left R.remaining lines.old) text × Appends (W.contents output.old) (W.contents output.new) text) }
+{
     let mut session = Session::new(heap)?;
-    let mut line = Line::new(heap);
-    for number in 1..=u16::MAX {
-        if !read_line(input, &mut line)? {
-            break;
+    for number in 0..u16::MAX {
+        if !lines.advance()? {
+            return Ok(());
         }
-        let answer = answer(heap, &mut session, &line, number);
-        let text = answer_text(heap, &answer)?;
-        output.write_all(text.as_str().as_bytes())?;
+        write_answer(heap, &mut session, lines.line(), number + 1, output)?;
     }
     Ok(())
 }
 
 fn main(rt: HostRuntime) -> io::Result<()> {
-    let mut input = BufReader::new(rt.alloc(), rt.stdin())?.bytes();
-    answer_lines(rt.alloc(), &mut input, &mut rt.stdout())
+    let reader = BufReader::new(rt.alloc(), rt.stdin())?;
+    let mut lines = Lines::new(rt.alloc(), reader);
+    answer_lines(rt.alloc(), &mut lines, &mut rt.stdout())
 }
 
 #[cfg(test)]
@@ -76,7 +81,7 @@ mod tests {
     // What is said to a text of lines.
     fn said_to(heap: Global, text: &[u8]) -> Result<Vec<u8>, Fail> {
         let mut said = Vec::new(heap);
-        answer_lines(heap, &mut text.bytes(), &mut said)?;
+        answer_lines(heap, &mut Lines::new(heap, text), &mut said)?;
         Ok(said)
     }
 

@@ -43,11 +43,7 @@ pub(crate) fn obey<'a, R: Read + Drop, W: Write, P: Write>(
     }
 }
 
-fn show_plan<'a, W: Write>(
-    heap: Global,
-    choice: Choice,
-    output: &mut W,
-) -> Result<(), Stop<'a>> {
+fn show_plan<'a, W: Write>(heap: Global, choice: Choice, output: &mut W) -> Result<(), Stop<'a>> {
     let plan = choice.row.plan(heap, choice.constraint)?;
     Ok(write_plan(output, choice.row, &plan)?)
 }
@@ -167,13 +163,7 @@ fn receive_by<'a, K: WrittenKind + Drop, R: Read + Drop, W: Write, P: Write>(
     progress: &mut P,
 ) -> Result<(), Stop<'a>> {
     let mut reception = Reception::new(heap, plan, table, kind)?;
-    Ok(reception::receive(
-        heap,
-        &mut reception,
-        input,
-        output,
-        progress,
-    )?)
+    Ok(reception::receive(heap, &mut reception, input, output, progress)?)
 }
 
 // Writes what is counted of two texts.

@@ -54,3 +54,29 @@ impl<'a> From<io::Error> for Stop<'a> {
         Stop::Work(Trouble::Outside(error))
     }
 }
+
+#[cfg(test)]
+mod tests {
+    use super::*;
+    use std::test::Fail;
+
+    #[test]
+    fn stops_are_told(rt: HostRuntime) -> Result<(), Fail> {
+        let refused = Stop::from(ChainFault::Row).to_string(rt.alloc())?;
+        assert_eq!(rt;
+            refused.as_str(),
+            "refused 9: Does the standard's table have this bandwidth, waveform and interleaver?"
+        );
+        let words = Stop::from(Slip::Files).to_string(rt.alloc())?;
+        assert!(rt; words.as_str().starts_with("count takes two files\n"));
+        assert!(rt; words.as_str().ends_with(USAGE));
+        let error = io::Error::from(io::ErrorKind::NotFound);
+        let file = Stop::File {
+            name: "air.txt",
+            error,
+        };
+        let file = file.to_string(rt.alloc())?;
+        assert!(rt; file.as_str().starts_with("air.txt: "));
+        Ok(())
+    }
+}

@@ -5,3 +5,4 @@ pub mod Written
 pub mod Keeping
 pub mod Unique
 pub mod Nexts
+pub mod Following

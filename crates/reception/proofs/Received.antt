@@ -1,12 +1,9 @@
--- Lines that are answered one after the other, which of an input they are, and what a writer then holds.
+-- Lines that are answered one after the other, and what a writer then holds.
 -- Assumes nothing.
-use Rattle.std.proofs.Common.{◌≡◌, ℕ, suc, ◌+◌, List, [], ◌∷◌, ◌++◌, length, take, ◌≤◌, ℤ, Some, None, Ok, Err, Option, Result, sym, refl, ap, ◌∙◌, subst, append_assoc, arith}
-use Rattle.std.proofs.lemmas.List.{append-nil, take_all, take-append-le}
-use Rattle.std.specs.Prelude.{◌==◌, if◌then◌else◌}
-use Rattle.std.specs.Io.Buffered.{reader_buffer, reader_capacity, reader_inner, reader_remaining}
-use Rattle.std.specs.declared.io.buffered.BufReader.{BufReader}
+use Rattle.std.proofs.Common.{◌≡◌, ℕ, suc, ◌+◌, List, [], ◌∷◌, ◌++◌, length, ℤ, Some, None, Ok, Err, Option, Result, sym, refl, ap, ◌∙◌, subst, append_assoc, arith}
+use Rattle.std.proofs.lemmas.List.{append-nil}
 use Rattle.std.specs.Result.{OnOk}
-use Rattle.std.specs.Io.KnownBytes.{Appends, Keeps, prepend_known}
+use Rattle.std.specs.Io.KnownBytes.{Appends, Keeps}
 use Rattle.receiver.specs.Views.{View}
 use Rattle.score.specs.Scale.{Scale}
 use Rattle.search.specs.Looking.{Lengths}
@@ -16,18 +13,6 @@ use Rattle.reception.specs.declared.written.ScoreText.{ScoreText}
 pub appends_none : (a : Option (List ℕ)) → Appends a a []
 appends_none None = tt
 appends_none (Some xs) = sym (append-nil xs)
-
-pub appends_both : (a b c : Option (List ℕ)) (x y : List ℕ) → Appends a b x → Appends b c y → Appends a c (x ++ y)
-appends_both None b c x y h k = tt
-appends_both (Some xs) None c x y h k = absurd h
-appends_both (Some xs) (Some ys) None x y h k = absurd k
-appends_both (Some xs) (Some ys) (Some zs) x y h k = k ∙ ap (λ l. l ++ y) h ∙ append_assoc xs x y
-
-pub keeps_then : (a b c : Option (List ℕ)) (x : List ℕ) → Keeps a b → Appends b c x → Appends a c x
-keeps_then None b c x h k = tt
-keeps_then (Some xs) None c x h k = absurd h
-keeps_then (Some xs) (Some ys) None x h k = absurd k
-keeps_then (Some xs) (Some ys) (Some zs) x h k = k ∙ ap (λ l. l ++ x) h
 
 pub then_keeps : (a b c : Option (List ℕ)) (x : List ℕ) → Appends a b x → Keeps b c → Appends a c x
 then_keeps None b c x h k = tt
@@ -42,26 +27,6 @@ on_ok (Err e) P Q f h = tt
 pub always : {X E : Type 0} (r : Result X E) (Q : Type 0) → Q → OnOk r Q
 always (Ok x) Q h = h
 always (Err e) Q h = tt
-
--- no line is left
-pub all_lines : (n : ℕ) (lines each rest : List (List ℕ)) → lines ≡ each ++ rest → rest ≡ [] → length each ≤ n → each ≡ take n lines
-all_lines n lines each rest e none few = sym (ap (take n) (e ∙ ap (λ l. each ++ l) none ∙ append-nil each) ∙ take_all n each few)
-
--- so many lines are answered
-pub first_lines : (n : ℕ) (lines each rest : List (List ℕ)) → lines ≡ each ++ rest → length each ≡ n → each ≡ take n lines
-first_lines n lines each rest e all =
-    let far : n ≤ length each = omega (arith, all) in
-    let near : length each ≤ n = omega (arith, all) in
-    sym (ap (take n) e ∙ take-append-le n each rest far ∙ take_all n each near)
-
-nothing_before : (known : Option (List ℕ)) → prepend_known [] known ≡ known
-nothing_before None = refl
-nothing_before (Some xs) = refl
-
--- a new buffer holds nothing back
-pub new_reader : {R A : Type 0} (remaining : R → Option (List ℕ)) (r : BufReader R A) (input : R) → reader_capacity r ≡ 8192 → reader_buffer r ≡ [] → reader_inner r ≡ input →
-    reader_remaining remaining r ≡ remaining input
-new_reader remaining r input long empty inner = (λ i. if long i == 0 then None else prepend_known (empty i) (remaining (inner i))) ∙ nothing_before (remaining input)
 
 module _ {S : Type 0} (k : Scale S) (written : S → ScoreText) (v : View) (whole : Lengths) where
   -- one line more

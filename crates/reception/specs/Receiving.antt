@@ -15,7 +15,7 @@ use Rattle.reception.specs.declared.written.ScoreText.{ScoreText}
 
 -- what is said before a look: that it begins, where the block is long
 abbrev pub announcement : ℕ → List ℕ
-announcement bits = cond (nat_le 10000 bits) (codes "looking for the best block of " ++ decimal bits ++ codes " bits" ++ (10 ∷ [])) []
+announcement bits = cond (nat_le 10000 bits) (codes "looking for the best block of " ++ decimal bits ++ codes " bits\n") []
 
 -- the text of an answer to the line with this number
 abbrev pub answer_text : {S : Type 0} → (S → ScoreText) → ℕ → Result (Option S) LineFault → List ℕ → List ℕ

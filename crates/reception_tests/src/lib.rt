@@ -1,9 +1,10 @@
 // Lines of a reception, answered.
 #![tactic(auto)]
 
-use plan::ChainFault;
+use plan::{ChainFault, Parts, Plan};
 use reception::{Reception, WrittenKind, receive};
 use samples::small_plan;
+use score::Total;
 use scrambler::Table;
 use std::alloc::Global;
 use std::io;
@@ -37,10 +38,34 @@ fn reception_of<K: WrittenKind + Drop>(
     Reception::new(heap, plan, table, kind)
 }
 
+// A reception of blocks of so many bits, each coded bit sent once.
+fn long_reception(heap: Global, bits: usize) -> Result<Reception<Table, Total>, ChainFault> {
+    let parts = Parts {
+        constraint: 7,
+        period: 1,
+        send_list: vec![in heap; 0, 1]?,
+        block_length: bits,
+        symbol_bits: 1,
+        frame_length: 2,
+        increment: 1,
+    };
+    let table = Table::new(3, vec![in heap; 1, 2]?)?;
+    Reception::new(heap, Plan::new(parts)?, table, Total)
+}
+
+// What is said on the side where a block of so many bits is looked for twice, and at the end.
+fn said_aside(heap: Global, bits: usize, progress: &mut Vec<u8>) -> io::Result<()> {
+    let Ok(mut reception) = long_reception(heap, bits) else {
+        return Ok(());
+    };
+    let text = b"look\n# a comment\nlook\n".as_slice();
+    receive(heap, &mut reception, text, &mut io::sink(), progress)
+}
+
 #[cfg(test)]
 mod tests {
     use super::*;
-    use score::{CountFirst, Total, Worst};
+    use score::{CountFirst, Worst};
     use std::test::Fail;
 
     const HEARD: &'static str = "# a comment\n0 6 1\n\n1\t5 1\r\n2 3 1\n4 6 1\n3 3 1\n";
@@ -70,6 +95,19 @@ mod tests {
         let expected =
             "# score 0\n000000100\n# refused 18 line 1: Has the line one of the forms that are read, in at most 2,080 characters?\n# refused 17 line 2: Is the location below N, and the value from -32,767 to 32,767?\n# score 0 0\n000000000\n";
         assert_eq!(rt; said.as_slice(), expected.as_bytes());
+        Ok(())
+    }
+
+    // Each look of a block of 10,000 bits is announced, and none of a shorter one.
+    #[test]
+    fn long_looks_are_announced(rt: HostRuntime) -> Result<(), Fail> {
+        let mut said = Vec::new(rt.alloc());
+        said_aside(rt.alloc(), 9_999, &mut said)?;
+        assert!(rt; said.is_empty());
+        said_aside(rt.alloc(), 10_000, &mut said)?;
+        let line = "looking for the best block of 10000 bits\n";
+        assert_eq!(rt; said.len(), 3 * line.len());
+        assert!(rt; said.as_slice().starts_with(line.as_bytes()));
         Ok(())
     }
 }

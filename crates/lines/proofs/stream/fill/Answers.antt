@@ -24,9 +24,11 @@ loop-byte-preserved g c =
     let old = bytes_remaining g.R.Read.remaining c.loop-byte.input in
     let new = bytes_remaining g.R.Read.remaining c.next.new.self in
     let byte = c.in_ok-byte.byte in
-    let read : Consumes old new (byte ∷ []) = subst (λ r. IfOk r (λ b. Consumes old new (b ∷ []))) c.in_ok-byte.was c.in-Some.ensures.steps in
-    (i.0 ++ (byte ∷ []), c.in_ok-push.ensures.kept refl i.0 i.1,
-    λ text e. let k = i.2 text e in line_went_on old new byte text i.0 k.0 read c.if-byte-eq10.false k.1 k.2)
+    let read : Consumes old new (byte ∷ []) = subst (λ r. IfOk r (λ b. Consumes old new (b ∷ []))) c.in_ok-byte.was c.in-Some.ensures.steps in (
+      i.0 ++ (byte ∷ []),
+      c.in_ok-push.ensures.kept refl i.0 i.1,
+      λ text e. let k = i.2 text e in line_went_on old new byte text i.0 k.0 read c.if-byte-eq10.false k.1 k.2,
+    )
 
 pub returns : goal.returns
 returns g c =

@@ -2,10 +2,11 @@ use Rattle.std.proofs.Common.{◌≡◌, ◌+◌, ◌-◌, ◌^◌, ◌<◌, ◌
 use Rattle.std.proofs.lemmas.List.{length_push}
 use Rattle.std.specs.Io.KnownBytes.{Appends}
 use Rattle.lines.specs.Streams.{lines_of, left, NextLine}
+use Rattle.lines.proofs.Following.{appends_both, all_lines, first_lines}
 use Rattle.receiver.specs.Receivers.{view_of}
 use Rattle.replay.specs.Given.{given}
 use Rattle.reception.specs.Receiving.{Replied}
-use Rattle.reception.proofs.Received.{appends_both, then_keeps, all_lines, first_lines, received_more}
+use Rattle.reception.proofs.Received.{then_keeps, received_more}
 use Rattle.reception.proofs.receiving.answer_all.Goals as goal
 use Rattle.reception.proofs.receiving.answer_all.Goals.{then-is_look+in_ok-flush+in_ok-announce, else-is_look}
 
@@ -42,8 +43,8 @@ loop-number-preserved g c =
         received_more (scale x.kind) written v w 1 a.0 n.0 x.values.items y.values.items now a.1 r.0 a.3 by_number,
         appends_both _ _ _ a.1 r.0 upto r.2,
         λ input e. let i = a.5 input e in
-        let k = n.2 i.0 i.1 in
-        (k.0, k.1, i.2 ∙ ap (λ l. a.0 ++ l) k.2 ∙ sym (append_assoc a.0 (n.0 ∷ []) (lines_of k.0))),
+            let k = n.2 i.0 i.1 in
+            (k.0, k.1, i.2 ∙ ap (λ l. a.0 ++ l) k.2 ∙ sym (append_assoc a.0 (n.0 ∷ []) (lines_of k.0))),
       );
       kept = c.in_ok-answer.ensures.kept ∙ inv.kept;
       kind = c.in_ok-answer.ensures.kind ∙ inv.kind;

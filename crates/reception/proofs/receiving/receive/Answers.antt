@@ -1,8 +1,9 @@
 use Rattle.std.proofs.Common.{◌++◌, refl, ◌∙◌, subst}
+use Rattle.lines.proofs.Following.{appends_both, new_reader}
 use Rattle.receiver.specs.Receivers.{view_of}
 use Rattle.replay.specs.Given.{given}
 use Rattle.reception.specs.Receiving.{Last}
-use Rattle.reception.proofs.Received.{appends_both, then_keeps, always, new_reader}
+use Rattle.reception.proofs.Received.{then_keeps, always}
 use Rattle.reception.proofs.receiving.receive.Goals as goal
 
 pub returns : goal.returns
