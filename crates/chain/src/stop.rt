@@ -2,7 +2,7 @@
 use entries::Question;
 use laboratory::Trouble;
 use lines::LineFault;
-use orders::{Slip, USAGE};
+use orders::{Slip, usage};
 use plan::ChainFault;
 use std::{fmt, io};
 
@@ -19,8 +19,14 @@ pub enum Stop<'a> {
 impl fmt::Display for Stop<'_> {
     fn fmt<W: fmt::Write>(&self, f: &mut fmt::Formatter<W>) -> fmt::Result {
         match self {
-            Stop::Words(slip) => write!(f, "{slip}\n{USAGE}"),
-            Stop::File { name, error } => write!(f, "{name}: {error}\n{USAGE}"),
+            Stop::Words(slip) => {
+                let usage = usage();
+                write!(f, "{slip}\n{usage}")
+            }
+            Stop::File { name, error } => {
+                let usage = usage();
+                write!(f, "{name}: {error}\n{usage}")
+            }
             Stop::Work(Trouble::Chain(fault)) => {
                 let number = u8::from(*fault);
                 let question = Question(LineFault::from(*fault));

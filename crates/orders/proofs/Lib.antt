@@ -1,0 +1,3 @@
+pub mod Words
+pub mod Options
+pub mod Refused

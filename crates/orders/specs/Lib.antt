@@ -1,1 +1,5 @@
 pub mod Words
+pub mod Settings
+pub mod Orders
+pub mod Slips
+pub mod Texts

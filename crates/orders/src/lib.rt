@@ -10,7 +10,7 @@ mod slip;
 pub use order::{Choice, Drawing, Order, ScoreKind};
 pub use reading::order_of;
 pub use settings::Settings;
-pub use slip::{Slip, USAGE};
+pub use slip::{Slip, usage};
 
 #[cfg(test)]
 mod tests {

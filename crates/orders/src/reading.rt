@@ -1,6 +1,8 @@
 // The words of a command line, read as an order.
-ghost use Rattle.std.specs.Prelude.{◌≡◌, ℕ, List, ◌∷◌, codes, IfOk};
-ghost use Rattle.orders.specs.Words.{Names, first_word, Follows, bytes_of, Orders};
+ghost use Rattle.std.specs.Prelude.{[], ◌∷◌, codes, MatchResult, IfErr};
+ghost use Rattle.orders.specs.Words.{bytes_of};
+ghost use Rattle.orders.specs.Orders.{Names, BeginsWith, NoOrder};
+ghost use Rattle.orders.specs.Slips.{FirstNoNumber, row_names, NoRow, Reading};
 
 use crate::numbers::number;
 use crate::order::{Choice, Order};
@@ -15,7 +17,7 @@ fn choice_of(
     interleaver: &str,
     constraint: &str,
 ) -> Result<Choice, Slip>
-    ensures { IfOk result (λ c. Names bandwidth.now waveform.now interleaver.now constraint.now c) }
+    ensures { MatchResult result (λ c. Names bandwidth.now waveform.now interleaver.now constraint.now c) (λ slip. FirstNoNumber row_names (bandwidth.now ∷ waveform.now ∷ interleaver.now ∷ constraint.now ∷ []) slip) }
 {
     let bandwidth = number(bandwidth, "bandwidth")? as usize;
     let waveform = number(waveform, "waveform")? as usize;
@@ -33,7 +35,7 @@ fn choice_of(
 
 // The four words of a row and its code, and the words behind them.
 fn split_choice(words: &[String]) -> Result<(Choice, &[String]), Slip>
-    ensures { IfOk result (λ r. (a b i k : List ℕ) × Names a b i k r.0 × (bytes_of words.now ≡ a ∷ b ∷ i ∷ k ∷ bytes_of r.1.now)) }
+    ensures { MatchResult result (λ r. BeginsWith r.0 (bytes_of words.now) (bytes_of r.1.now)) (λ slip. NoRow (bytes_of words.now) slip) }
 {
     let [bandwidth, waveform, interleaver, constraint, rest @ ..] = words else {
         return Err(Slip::Count);
@@ -48,8 +50,7 @@ fn split_choice(words: &[String]) -> Result<(Choice, &[String]), Slip>
 }
 
 fn rows_order<'a>(words: &'a [String]) -> Result<Order<'a>, Slip>
-    ensures word { IfOk result (λ o. first_word o ≡ codes "rows") }
-    ensures follows { IfOk result (λ o. Follows o (bytes_of words.now)) }
+    ensures { Reading (codes "rows" ∷ bytes_of words.now) result }
 {
     match words {
         [] => Ok(Order::Rows),
@@ -58,8 +59,7 @@ fn rows_order<'a>(words: &'a [String]) -> Result<Order<'a>, Slip>
 }
 
 fn plan_order<'a>(words: &'a [String]) -> Result<Order<'a>, Slip>
-    ensures word { IfOk result (λ o. first_word o ≡ codes "plan") }
-    ensures follows { IfOk result (λ o. Follows o (bytes_of words.now)) }
+    ensures { Reading (codes "plan" ∷ bytes_of words.now) result }
 {
     match split_choice(words)? {
         (choice, []) => Ok(Order::Plan(choice)),
@@ -68,8 +68,7 @@ fn plan_order<'a>(words: &'a [String]) -> Result<Order<'a>, Slip>
 }
 
 fn send_order<'a>(words: &'a [String]) -> Result<Order<'a>, Slip>
-    ensures word { IfOk result (λ o. first_word o ≡ codes "send") }
-    ensures follows { IfOk result (λ o. Follows o (bytes_of words.now)) }
+    ensures { Reading (codes "send" ∷ bytes_of words.now) result }
 {
     let (choice, rest) = split_choice(words)?;
     let settings = Settings::to_send(rest)?;
@@ -77,8 +76,7 @@ fn send_order<'a>(words: &'a [String]) -> Result<Order<'a>, Slip>
 }
 
 fn receive_order<'a>(words: &'a [String]) -> Result<Order<'a>, Slip>
-    ensures word { IfOk result (λ o. first_word o ≡ codes "receive") }
-    ensures follows { IfOk result (λ o. Follows o (bytes_of words.now)) }
+    ensures { Reading (codes "receive" ∷ bytes_of words.now) result }
 {
     let (choice, rest) = split_choice(words)?;
     let settings = Settings::to_receive(rest)?;
@@ -86,8 +84,7 @@ fn receive_order<'a>(words: &'a [String]) -> Result<Order<'a>, Slip>
 }
 
 fn count_order<'a>(words: &'a [String]) -> Result<Order<'a>, Slip>
-    ensures word { IfOk result (λ o. first_word o ≡ codes "count") }
-    ensures follows { IfOk result (λ o. Follows o (bytes_of words.now)) }
+    ensures { Reading (codes "count" ∷ bytes_of words.now) result }
 {
     match words {
         [sent, shown] => Ok(Order::Count {
@@ -100,7 +97,8 @@ fn count_order<'a>(words: &'a [String]) -> Result<Order<'a>, Slip>
 
 // The order that these words give: a word, and what belongs to it.
 pub fn order_of<'a>(words: &'a [String]) -> Result<Order<'a>, Slip>
-    ensures { IfOk result (λ o. Orders (bytes_of words.now) o) }
+    ensures read { Reading (bytes_of words.now) result }
+    ensures refused { IfErr result (λ _. NoOrder (bytes_of words.now)) }
 {
     let [word, rest @ ..] = words else {
         return Err(Slip::Word);

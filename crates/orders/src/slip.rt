@@ -1,4 +1,7 @@
 // What is wrong with the words of a command line.
+ghost use Rattle.std.specs.Prelude.{◌≡◌, Some};
+ghost use Rattle.orders.specs.Texts.{sentence, usage_text};
+
 use std::fmt;
 
 #[derive(Clone, Copy, Debug, PartialEq, Eq)]
@@ -12,6 +15,8 @@ pub enum Slip {
 }
 
 impl fmt::Display for Slip {
+    ghost output = { λ slip. Some (sentence slip) };
+
     fn fmt<W: fmt::Write>(&self, f: &mut fmt::Formatter<W>) -> fmt::Result {
         match self {
             Slip::Word => f.write_str("the first word is none of rows, plan, send, receive, count"),
@@ -26,9 +31,14 @@ impl fmt::Display for Slip {
     }
 }
 
-pub const USAGE: &'static str = "usage: chain rows
+// How the program is called.
+pub fn usage() -> &'static str
+    ensures { result.now ≡ usage_text }
+{
+    "usage: chain rows
        chain plan ROW
        chain send ROW [--random BLOCKS SEED] [--copy FILE] [--table FILE]
        chain receive ROW [--score total|worst|count] [--table FILE]
        chain count SENT SHOWN
-ROW is four numbers: bandwidth in kHz, waveform, interleaver (0 to 3), constraint length (7 or 9)";
+ROW is four numbers: bandwidth in kHz, waveform, interleaver (0 to 3), constraint length (7 or 9)"
+}
