@@ -1,4 +1,6 @@
 // Why the program stops, and how that is said.
+ghost use Rattle.chain.specs.Texts.{stop_text};
+
 use entries::Question;
 use laboratory::Trouble;
 use lines::LineFault;
@@ -17,6 +19,8 @@ pub enum Stop<'a> {
 
 // The usage follows where other words are wanted.
 impl fmt::Display for Stop<'_> {
+    ghost output = { λ stop. stop_text stop };
+
     fn fmt<W: fmt::Write>(&self, f: &mut fmt::Formatter<W>) -> fmt::Result {
         match self {
             Stop::Words(slip) => {
