@@ -57,11 +57,19 @@ no_row : (ws rest : List (List ℕ)) (slip : Slip) (c : Choice) → NoRow ws sli
 no_row ws rest slip c (inl few) (a, b, i, k, names, e) = let n = ap length e in omega (arith, few.0)
 no_row ws rest slip c (inr first) (a, b, i, k, names, e) =
     let f = rw e at first.1 in
-    elim f [ inl h ↦ h.0 _ names.bandwidth_word
-    | inr h ↦ elim h.2 [ inl h ↦ h.0 _ names.waveform_word
-    | inr h ↦ elim h.2 [ inl h ↦ h.0 _ names.interleaver_word
-    | inr h ↦ elim h.2 [ inl h ↦ h.0 _ names.constraint_word
-    | inr h ↦ h.2 ] ] ] ]
+    elim f [
+      | inl h ↦ h.0 _ names.bandwidth_word
+      | inr h ↦ elim h.2 [
+        | inl h ↦ h.0 _ names.waveform_word
+        | inr h ↦ elim h.2 [
+          | inl h ↦ h.0 _ names.interleaver_word
+          | inr h ↦ elim h.2 [
+            | inl h ↦ h.0 _ names.constraint_word
+            | inr h ↦ h.2
+          ]
+        ]
+      ]
+    ]
 
 same_rest : (ws x y : List (List ℕ)) (c d : Choice) → BeginsWith c ws x → BeginsWith d ws y → x ≡ y
 same_rest ws x y c d (a, b, i, k, names, e) (a', b', i', k', names', e') = tail_same (tail_same (tail_same (tail_same (sym e ∙ e'))))

@@ -23,6 +23,8 @@ returns-in_err-seed c =
     rw (p.1, p.2, e) (numbers (λ d. tt) (inr (_, c.in_ok-blocks.ensures.read, inl (c.in_err-seed.ensures.read, c.in_err-seed.ensures.told))))
 
 pub returns : goal.returns
-returns c =
-    (_ ∷ _ ∷ [], (_, _, c.in_ok-blocks.ensures.read, c.in_ok-seed.ensures.read, refl),
-    two_are c.args.words.now c.blocks-item.result c.seed-item.result c.as_str.result.now c.as_str-2.result.now c.in-len2-up.len_at_least c.blocks-item.is c.seed-item.is c.as_str.ensures.value c.as_str-2.ensures.value)
+returns c = (
+  _ ∷ _ ∷ [],
+  (_, _, c.in_ok-blocks.ensures.read, c.in_ok-seed.ensures.read, refl),
+  two_are c.args.words.now c.blocks-item.result c.seed-item.result c.as_str.result.now c.as_str-2.result.now c.in-len2-up.len_at_least c.blocks-item.is c.seed-item.is c.as_str.ensures.value c.as_str-2.ensures.value,
+)
