@@ -1,9 +1,9 @@
 -- Where something is told of words, they are no order's.
-use Rattle.std.proofs.Common.{◌≡◌, ℕ, ◌+◌, ◌<◌, ◌≤◌, ◌⊎◌, List, [], ◌∷◌, ◌++◌, length, codes, Result, Ok, Err, IfErr, refl, sym, ◌∙◌, ap, arith, inl, inr, length-append}
-use Rattle.orders.specs.Words.{Writes, score_word}
-use Rattle.orders.specs.Settings.{CommandOption, Random, Copy, Table, Score, Takes, option_name, word_count, Sets, OfSending, OfReceiving}
-use Rattle.orders.specs.Orders.{BeginsWith, first_word, Orders, NoOrder}
-use Rattle.orders.specs.Slips.{FirstNoNumber, drawing_names, row_names, NoRow, NoOption, lacks, numbers, kind, NoOptions, Tells, no_word, other_word, rows_words, plan_row, plan_words, send_row, send_options, receive_row, receive_options, count_files, Reading}
+use Rattle.std.proofs.Common.{◌≡◌, ℕ, ◌+◌, ◌<◌, List, [], ◌∷◌, ◌++◌, length, codes, Result, Ok, Err, IfErr, refl, sym, ◌∙◌, ap, arith, inl, inr, length-append}
+use Rattle.orders.specs.Words.{score_word}
+use Rattle.orders.specs.Settings.{CommandOption, Random, Score, option_name, word_count, Sets}
+use Rattle.orders.specs.Orders.{BeginsWith, first_word, NoOrder}
+use Rattle.orders.specs.Slips.{FirstNoNumber, drawing_names, NoRow, NoOption, lacks, numbers, kind, NoOptions, Tells, no_word, other_word, rows_words, plan_row, plan_words, send_row, send_options, receive_row, receive_options, count_files, Reading}
 use Rattle.orders.specs.declared.order.Choice.{Choice}
 use Rattle.orders.specs.declared.settings.Settings.{Settings}
 use Rattle.orders.specs.declared.order.ScoreKind.{ScoreKind}

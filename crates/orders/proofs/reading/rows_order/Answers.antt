@@ -1,4 +1,4 @@
-use Rattle.std.proofs.Common.{◌≡◌, length, ap, ◌∙◌, sym, arith}
+use Rattle.std.proofs.Common.{length, ap, arith}
 use Rattle.orders.specs.Slips.{rows_words}
 use Rattle.orders.proofs.Words.{length-bytes_of}
 use Rattle.orders.proofs.reading.rows_order.Goals as goal

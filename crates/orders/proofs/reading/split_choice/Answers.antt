@@ -1,4 +1,4 @@
-use Rattle.std.proofs.Common.{◌≡◌, ◌≤◌, length, inr, arith}
+use Rattle.std.proofs.Common.{◌≤◌, length, inr, arith}
 use Rattle.std.proofs.lemmas.Result.{err_from_is_err_and}
 use Rattle.orders.specs.Words.{bytes_of}
 use Rattle.orders.proofs.Words.{length-bytes_of, four_are}

@@ -1,7 +1,7 @@
 use Rattle.std.proofs.Common.{◌≡◌, [], refl}
 use Rattle.orders.specs.Settings.{no_option, nothing_set}
 use Rattle.orders.proofs.Words.{first_is}
-use Rattle.orders.proofs.Options.{one_step, stopped, all_set}
+use Rattle.orders.proofs.Options.{one_step}
 use Rattle.orders.proofs.settings.Settings.to_receive.Goals as goal
 
 pub loop-rest-init : goal.loop-rest-init
