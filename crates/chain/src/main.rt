@@ -12,12 +12,23 @@ use std::process::ExitCode;
 use std::{env, io};
 
 fn main(rt: HostRuntime) -> io::Result<ExitCode> {
-    let words = env::args(&rt)?.skip(1).collect::<Vec<String>>(rt.alloc())?;
+    let words = match words_of(&rt) {
+        Ok(words) => words,
+        Err(error) => {
+            eprintln!(rt; "chain: {error}")?;
+            return Ok(ExitCode::FAILURE);
+        }
+    };
     if let Err(stop) = run(&rt, words.as_slice()) {
         eprintln!(rt; "chain: {stop}")?;
         return Ok(ExitCode::FAILURE);
     }
     Ok(ExitCode::SUCCESS)
+}
+
+// The words behind the program's name.
+fn words_of(rt: &HostRuntime) -> io::Result<Vec<String>> {
+    Ok(env::args(rt)?.skip(1).collect::<Vec<String>>(rt.alloc())?)
 }
 
 // Does what the words ask for.

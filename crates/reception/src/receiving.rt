@@ -36,7 +36,7 @@ fn is_look(line: &Line) -> bool {
     matches!(read_line(line), Ok(Some(Entry::Look)))
 }
 
-// Writes the block that was shown, and its score.
+// Writes the block that was shown, and its score, and holds nothing back.
 fn write_shown<S: Scrambler + Drop, K: WrittenKind + Drop, W: Write>(
     reception: &Reception<S, K>,
     score: K::Score,
@@ -47,7 +47,8 @@ fn write_shown<S: Scrambler + Drop, K: WrittenKind + Drop, W: Write>(
     let score = reception.text(score);
     let block = reception.block();
     let shown = Shown { score, block };
-    write!(output, "{shown}")
+    write!(output, "{shown}")?;
+    output.flush()
 }
 
 // Answers the line with this number.
@@ -127,6 +128,5 @@ pub fn receive<S: Scrambler + Drop, K: WrittenKind + Drop, R: Read + Drop, W: Wr
     let mut lines = Lines::new(heap, reader);
     answer_all(reception, &mut lines, output, progress)?;
     announce(reception.block().len(), progress)?;
-    show_last(reception, output)?;
-    output.flush()
+    show_last(reception, output)
 }
