@@ -1,1 +1,4 @@
+pub mod Calls
+pub mod Dots
+pub mod Trials
 pub mod Usual

@@ -1,4 +1,7 @@
 // The dots of a curve: what is counted at each ratio.
+ghost use Rattle.std.specs.Prelude.{◌≡◌, IfOk};
+ghost use Rattle.curve.specs.Dots.{with_trial, rate_of, IsDot, IsCurve};
+
 use crate::choice::Run;
 use crate::trial::{Trial, run_trial};
 use crate::trouble::Trouble;
@@ -16,14 +19,19 @@ pub struct Dot {
 }
 
 impl Dot {
-    fn add(&mut self, trial: &Trial) {
+    // One block more.
+    fn add(&mut self, trial: &Trial)
+        ensures { self.new ≡ with_trial self.old trial.now.sent.items trial.now.shown.items trial.now.score }
+    {
         self.count
             .add(trial.sent.as_slice(), trial.shown.as_slice());
         self.score = self.score.saturating_add(trial.score);
     }
 
     // Bit errors for each bit.
-    pub(crate) fn rate(&self) -> f64 {
+    pub(crate) fn rate(&self) -> f64
+        ensures { result ≡ rate_of self.now.count }
+    {
         let Count {
             bits,
             bit_errors,
@@ -34,7 +42,9 @@ impl Dot {
 }
 
 // A dot for each ratio; how far it has come goes to standard error.
-pub(crate) fn dots_of(rt: &HostRuntime, run: Run) -> Result<Vec<Dot>, Trouble> {
+pub(crate) fn dots_of(rt: &HostRuntime, run: Run) -> Result<Vec<Dot>, Trouble>
+    ensures { IfOk result (λ v. IsCurve run v.items) }
+{
     let mut dots = Vec::new(rt.alloc());
     for decibels in run.from..=run.to {
         let dot = dot_at(rt.alloc(), run, decibels)?;
@@ -46,7 +56,9 @@ pub(crate) fn dots_of(rt: &HostRuntime, run: Run) -> Result<Vec<Dot>, Trouble> {
 }
 
 // Each ratio begins with the same seed, so that all send the same first block.
-fn dot_at(heap: Global, run: Run, decibels: i8) -> Result<Dot, Trouble> {
+fn dot_at(heap: Global, run: Run, decibels: i8) -> Result<Dot, Trouble>
+    ensures { IfOk result (IsDot run decibels) }
+{
     let mut air = Air::new(run.seed, decibels);
     let mut dot = Dot {
         decibels,
