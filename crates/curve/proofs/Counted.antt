@@ -1,16 +1,17 @@
 -- A trial more.
 -- Assumes nothing.
-use Rattle.std.proofs.Common.{◌≡◌, ℕ, suc, ◌+◌, ◌<◌, ◌≤◌, Bool, true, false, List, [], ◌∷◌, ◌++◌, length, get_or, Some, None, Option, IfSome, ℤ, pos, ◌+ℤ◌, sym, refl, ap, subst, ◌∙◌, ⊎_elim, add-one, length-append, arith}
-use Rattle.std.specs.Int.{int_gap}
-use Rattle.std.specs.Prelude.{slice_index_or}
-use Rattle.std.specs.Range.{range_inclusive_len}
-use Rattle.std.proofs.Math.IntN.{+ℤ_assoc}
+use Rattle.std.proofs.Common.{◌≡◌, ℕ, zero, suc, ◌+◌, ◌<◌, ◌≤◌, List, [], ◌∷◌, ◌++◌, length, get_or, Some, None, Option, IfSome, ℤ, pos, ◌+ℤ◌, negsuc, ◌≤ℤ◌, true, false, sym, ap, subst, ◌∙◌, ⊎_elim, add-one, length-append, arith}
+use Rattle.std.specs.Int.Signed.{le_z, lt_z}
+use Rattle.std.specs.Prelude.{T, slice_index_or}
+use Rattle.std.proofs.lemmas.Bool.{leb-true, ltb-false, true≢false}
+use Rattle.std.proofs.Math.IntN.{+ℤ_assoc, +ℤ_idr}
 use Rattle.std.proofs.Math.ListN.{get_or-append}
 use Rattle.std.proofs.Math.Nat.{eq-or-lt_of_le}
 use Rattle.std.proofs.Math.Seq.{get_or-append_seam}
 use Rattle.channel.specs.declared.air.Air.{Air}
 use Rattle.plan.specs.Scheme.{Scheme}
-use Rattle.curve.specs.Dots.{with_trial, trial_air, counted, IsDot}
+use Rattle.rows.specs.Schemes.{row_scheme}
+use Rattle.curve.specs.Dots.{with_trial, trial_air, counted, IsFresh, IsDot}
 use Rattle.curve.specs.Trials.{drawn_block, decoded_block, decoded_score, trial_view, trial_calls, next_air, IsTrial}
 use Rattle.curve.specs.declared.choice.Run.{Run}
 use Rattle.curve.specs.declared.counting.Dot.{Dot}
@@ -58,7 +59,32 @@ each_more run dots x dot e one each i d h =
 pub next_ratio : (from : ℤ) (k : ℕ) → from +ℤ pos k +ℤ pos 1 ≡ from +ℤ pos (k + 1)
 next_ratio from k = +ℤ_assoc from (pos k) (pos 1)
 
--- a range that has values left is not spent
-pub not_spent : (a b : ℤ) (spent : Bool) → 0 < range_inclusive_len int_gap a b spent → spent ≡ false
-not_spent a b true h = absurd (omega (arith, h))
-not_spent a b false h = refl
+-- past the last ratio there is none
+pub no_more : (a b z : ℤ) (k : ℕ) → z ≡ a +ℤ pos k → (0 < k → z ≤ℤ b) → le_z z b ≡ false → a ≤ℤ b → ⊥
+no_more a b z zero e w past h =
+    let under : z ≤ℤ b = subst (λ y. y ≤ℤ b) (sym (e ∙ +ℤ_idr a)) h in
+    subst T past under.le
+no_more a b z (suc k) e w past h = let under : z ≤ℤ b = w (omega arith) in subst T past under.le
+
+-- the last ratio is the run's last
+pub last_is : (a b : ℤ) → le_z a b ≡ true → lt_z a b ≡ false → a ≡ b
+last_is (pos a) (pos b) h k = let same : a ≡ b = omega (arith, leb-true a b h, ltb-false a b k) in ap pos same
+last_is (pos a) (negsuc b) h k = absurd (true≢false (sym h))
+last_is (negsuc a) (pos b) h k = absurd (true≢false k)
+last_is (negsuc a) (negsuc b) h k = let same : a ≡ b = omega (arith, leb-true b a h, ltb-false b a k) in ap negsuc same
+
+-- a fact of every scheme, and a weaker fact
+pub always : (P : Scheme → Type 0) (o : Option Scheme) → ((s : Scheme) → P s) → IfSome o P
+always P None f = tt
+always P (Some s) f = f s
+
+weaker : (P Q : Scheme → Type 0) (o : Option Scheme) → ((s : Scheme) → P s → Q s) → IfSome o P → IfSome o Q
+weaker P Q None f h = tt
+weaker P Q (Some s) f h = f s h
+
+-- all trials are counted
+pub finished : (run : Run) (decibels : ℤ) (start air : Air) (n : ℕ) (dot : Dot) → n ≡ run.blocks → IsFresh run.seed start →
+    IfSome (row_scheme run.choice.row run.choice.constraint) (Stands start decibels n air dot) → IsDot run decibels dot
+finished run decibels start air n dot e fresh h =
+    weaker (Stands start decibels n air dot) (λ s. (a : Air) × IsFresh run.seed a × (dot ≡ counted s a decibels run.blocks))
+    (row_scheme run.choice.row run.choice.constraint) (λ s k. (start, fresh, k.1 ∙ ap (counted s start decibels) e)) h

@@ -54,7 +54,7 @@ pub trial_made : (s : Scheme) (air : Air) (x : Trial) (v : View) (calls : List C
     x.sent.items ≡ drawn_block s air.generator.state → v ≡ trial_view s → calls ≡ trial_calls s air →
     x.shown.items ≡ shown total_scale v.scheme (values v calls) (replicate v.scheme.block 0) →
     Promise total_scale v (enough v.scheme) calls (bits_of x.shown.items) x.score → IsTrial s air x
-unfolding decoded_block, decoded_score
+unfolding decoded_block decoded_score
 trial_made s air x v calls sent view heard bytes p =
     let shown_is : x.shown.items ≡ decoded_block (trial_view s) (trial_calls s air) =
     bytes ∙ (λ i. shown total_scale (view i).scheme (values (view i) (heard i)) (replicate (view i).scheme.block 0)) in

@@ -103,3 +103,12 @@ pub place_below : (n i : ℕ) (xs ys : List ℕ) → xs ≡ ys → All (λ p. p 
 place_below n i xs ys e below h =
     let P : List ℕ → Type 0 = λ zs. get_or zs i 0 < n in
     subst P (sym e) (below i 0 (subst (λ zs. i < length zs) e h))
+
+-- the first n + 1 numbers
+map_same : (xs : List ℕ) → map (λ x. x) xs ≡ xs
+map_same [] = refl
+map_same (x ∷ xs) = ap (λ l. x ∷ l) (map_same xs)
+
+pub range_more : (n : ℕ) → range_with_len 0 (n + 1) ≡ range_with_len 0 n ++ n ∷ []
+range_more n =
+    sym (map_same (range_with_len 0 (n + 1))) ∙ map-range_with_len_more (λ x. x) 0 n n (zero-add n) ∙ (λ i. map_same (range_with_len 0 n) i ++ n ∷ [])

@@ -1,9 +1,8 @@
 -- What is counted at a ratio.
 -- Assumes nothing.
-use Rattle.std.specs.Prelude.{◌≡◌, ℕ, zero, suc, ◌+◌, ◌-◌, ◌<◌, List, length, ℤ, pos, ◌+ℤ◌, IfSome, slice_index_or}
+use Rattle.std.specs.Prelude.{◌≡◌, ℕ, zero, suc, ◌<◌, List, length, ℤ, pos, ◌+ℤ◌, ◌≤ℤ◌, IfSome, slice_index_or}
 use Rattle.std.specs.Float.{float_one}
 use Rattle.std.specs.Float.Ieee.{Float, binary64, div, of_int}
-use Rattle.std.specs.Int.{int_gap}
 use Rattle.channel.specs.declared.air.Air.{Air}
 use Rattle.errors.specs.Errors.{added, with_block}
 use Rattle.errors.specs.declared.Count.{Count}
@@ -52,7 +51,7 @@ abbrev pub IsDot : Run → ℤ → Dot → Type 0
 IsDot run decibels d =
     IfSome (row_scheme run.choice.row run.choice.constraint) (λ s. (air : Air) × IsFresh run.seed air × (d ≡ counted s air decibels run.blocks))
 
--- the dots of a run: one for each ratio from the first to the last, in this order, and none where the last is lower
+-- the dots of a run, in the order of the ratios: behind them comes the ratio behind the last
 pub record IsCurve (run : Run) (dots : List Dot) : Type 0 where
-  pub long : length dots ≡ int_gap run.from run.to + 1 - int_gap run.to run.from
+  pub last : run.from ≤ℤ run.to → run.from +ℤ pos (length dots) ≡ run.to +ℤ pos 1
   pub each : (i : ℕ) (d : Dot) → i < length dots → IsDot run (run.from +ℤ pos i) (slice_index_or dots i d)

@@ -124,5 +124,9 @@ fn shuffled_places(heap: Global, air: &mut Air, count: usize) -> Result<Vec<usiz
 fn places_to(heap: Global, count: usize) -> Result<Vec<usize>, AllocError>
     ensures { IfOk result (λ v. v.items ≡ range_with_len 0 count) }
 {
-    (0..count).collect(heap)
+    let mut places = Vec::new(heap);
+    for place in 0..count {
+        places.push(place)?;
+    }
+    Ok(places)
 }

@@ -2,7 +2,7 @@ use Rattle.std.proofs.Common.{◌≡◌, ◌<◌, All, ℕ, length, sym, ap, sub
 use Rattle.std.proofs.lemmas.List.{with_items_is}
 use Rattle.std.proofs.lemmas.List.FromFn.{length-range_with_len}
 use Rattle.std.proofs.lemmas.List.Sorted.{All-permutation}
-use Rattle.channel.specs.Drawing.{reordered}
+use Rattle.channel.specs.Drawing.{state_after, reordered}
 use Rattle.curve.proofs.Turns.{range_below}
 use Rattle.curve.proofs.calls.shuffled_places.Goals as goal
 
@@ -24,3 +24,10 @@ returns-clause-places c =
       ap length items ∙ c.shuffle.auto.places ∙ ap length before ∙ length-range_with_len 0 n,
       subst (All P) (sym items) below,
     )
+
+pub returns-clause-air : goal.returns-clause-air
+returns-clause-air c =
+    let air = c.args.air.now in
+    let long = ap length (c.as_mut_slice.ensures.value ∙ c.in_ok-places.ensures) ∙ length-range_with_len 0 c.args.count in
+    let after = c.shuffle.ensures.after ∙ ap (λ n. state_after n air.generator.state) long in
+    (λ i. record { generator = record { state = after i }; amplitude = air.amplitude; noise = air.noise })

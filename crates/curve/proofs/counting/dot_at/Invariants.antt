@@ -7,4 +7,4 @@ use Rattle.curve.proofs.counting.dot_at.Given as goal
 abbrev pub invariant-loop : goal.invariant-loop
 invariant-loop l =
     IfSome (row_scheme l.run.choice.row l.run.choice.constraint)
-    (λ s. (l.air ≡ trial_air s l.initial.air l.counter) × (l.dot ≡ counted s l.initial.air l.decibels l.counter))
+    (λ s. (l.air ≡ trial_air s l.initial.air l.counter) × (l.dot ≡ counted s l.initial.air l.fn.decibels l.counter))

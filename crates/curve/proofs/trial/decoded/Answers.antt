@@ -1,4 +1,4 @@
-use Rattle.std.proofs.Common.{◌≡◌, ◌-◌, ◌*◌, ◌/◌, ◌^◌, ◌≤◌, min, length, is_ok, Ok, sym, ap, ◌∙◌, pow_mono, arith}
+use Rattle.std.proofs.Common.{◌≡◌, ◌-◌, ◌*◌, ◌/◌, ◌^◌, ◌≤◌, min, length, is_ok, Ok, ap, ◌∙◌, pow_mono, arith}
 use Rattle.code.specs.Numbers.{bits_of}
 use Rattle.plan.specs.Plans.{plan_scheme}
 use Rattle.receiver.specs.Receivers.{view}
@@ -22,9 +22,7 @@ returns-clause-promise c =
     c.requires
     (c.as_mut_slice-2.ensures.len ∙ c.in_ok-scores.ensures.len ∙ twice ∙ ap (λ m. 2 ^ m * 2) states)
     (c.as_mut_slice-3.ensures.len ∙ c.in_ok-marks.ensures.len ∙ c.mark_bytes.ensures ∙ (λ i. size i * 2 ^ states i / 8)) in
-    let shown_is : c.in_ok-shown.shown ≡ c.in_ok-shown.field-0.shown = c.in_ok-shown.shown-is in
-    let was : c.in_ok-shown.shown ≡ Ok c.in_ok-shown-2.field-0 = c.in_ok-shown-2.was in
-    let gave = sym shown_is ∙ was in
+    let gave : c.in_ok-shown.field-0.shown ≡ Ok c.in_ok-shown-2.field-0 = c.in_ok-shown-2.was in
     promised c.in_ok-shown.field-0.shown c.in_ok-shown-2.field-0 (view c.args.plan (table_meaning c.args.table)) _ _ c.args.calls.now (bits_of c.replay.new.block)
     c.in_ok-shown.ensures.promise gave lent
 
@@ -40,8 +38,6 @@ returns-clause-shown c =
     c.requires
     (c.as_mut_slice-2.ensures.len ∙ c.in_ok-scores.ensures.len ∙ twice ∙ ap (λ m. 2 ^ m * 2) states)
     (c.as_mut_slice-3.ensures.len ∙ c.in_ok-marks.ensures.len ∙ c.mark_bytes.ensures ∙ (λ i. size i * 2 ^ states i / 8)) in
-    let shown_is : c.in_ok-shown.shown ≡ c.in_ok-shown.field-0.shown = c.in_ok-shown.shown-is in
-    let was : c.in_ok-shown.shown ≡ Ok c.in_ok-shown-2.field-0 = c.in_ok-shown-2.was in
-    let gave = sym shown_is ∙ was in
+    let gave : c.in_ok-shown.field-0.shown ≡ Ok c.in_ok-shown-2.field-0 = c.in_ok-shown-2.was in
     c.in_ok-shown.ensures.written (ap is_ok gave)
     ∙ ap (λ l. shown total_scale (plan_scheme c.args.plan) (value_at (ledger (view c.args.plan (table_meaning c.args.table)) l c.args.calls.now)) c.args.block.now) lent

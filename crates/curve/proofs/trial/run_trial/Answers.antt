@@ -1,4 +1,4 @@
-use Rattle.std.proofs.Common.{◌≡◌, length, replicate, sym, ap, subst, ◌∙◌}
+use Rattle.std.proofs.Common.{◌≡◌, length, replicate, sym, ap, subst, ◌∙◌, rules}
 use Rattle.std.proofs.lemmas.List.{with_items_is}
 use Rattle.channel.specs.declared.air.Air.{Air}
 use Rattle.code.specs.Numbers.{bits_of}
@@ -28,7 +28,8 @@ returns-clause-trial c =
     let seen : v ≡ trial_view s = λ i. record { scheme = s; meaning = after i } in
     let heard : c.as_slice-2.result.now ≡ trial_calls s air = c.as_slice-2.ensures.value ∙ c.in_ok-calls.ensures.calls ∙ (λ i. calls s (table i) (indices i) (drawn i)) in
     let items = with_items_is c.in_ok-shown.shown c.decoded.new.block (c.decoded.auto.block ∙ c.as_mut_slice.ensures.len) in
-    let zeros : c.as_mut_slice.result.now ≡ replicate s.block 0 = c.as_mut_slice.ensures.value ∙ c.in_ok-shown.ensures.items ∙ ap (λ p. replicate p.block_length 0) c.parts.ensures in
+    let made : c.in_ok-shown.shown.items ≡ replicate c.parts.result.now.block_length 0 = search rules in
+    let zeros : c.as_mut_slice.result.now ≡ replicate s.block 0 = c.as_mut_slice.ensures.value ∙ made ∙ ap (λ p. replicate p.block_length 0) c.parts.ensures in
     let bytes = items ∙ c.in_ok-score.ensures.shown ∙ ap (shown total_scale s (values v c.as_slice-2.result.now)) zeros in
     let best = subst (λ bs. Promise total_scale v (enough s) c.as_slice-2.result.now (bits_of bs) c.in_ok-score.score) (sym items) c.in_ok-score.ensures.promise in
     some_scheme (λ z. IsTrial z air _) (row_scheme c.args.choice.row c.args.choice.constraint) s c.in_ok-plan.ensures.made
