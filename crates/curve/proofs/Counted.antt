@@ -1,6 +1,6 @@
 -- A trial more.
 -- Assumes nothing.
-use Rattle.std.proofs.Common.{◌≡◌, ℕ, zero, suc, ◌+◌, ◌<◌, ◌≤◌, List, [], ◌∷◌, ◌++◌, length, get_or, Some, None, Option, IfSome, ℤ, pos, ◌+ℤ◌, negsuc, ◌≤ℤ◌, true, false, sym, ap, subst, ◌∙◌, ⊎_elim, add-one, length-append, arith}
+use Rattle.std.proofs.Common.{◌≡◌, ℕ, zero, suc, ◌+◌, ◌<◌, List, [], ◌∷◌, ◌++◌, length, get_or, Some, None, Option, IfSome, ℤ, pos, ◌+ℤ◌, negsuc, ◌≤ℤ◌, true, false, sym, ap, subst, ◌∙◌, ⊎_elim, add-one, length-append, arith}
 use Rattle.std.specs.Int.Signed.{le_z, lt_z}
 use Rattle.std.specs.Prelude.{T, slice_index_or}
 use Rattle.std.proofs.lemmas.Bool.{leb-true, ltb-false, true≢false}

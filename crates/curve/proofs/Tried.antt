@@ -1,6 +1,6 @@
 -- One block drawn, heard and decoded.
 -- Assumes nothing.
-use Rattle.std.proofs.Common.{◌≡◌, ℕ, ◌+◌, ◌-◌, ◌*◌, ◌/◌, ◌^◌, ◌<◌, ◌≤◌, Bool, List, length, replicate, Some, Ok, Option, Result, IfOk, IfSome, ℤ, get_or, sym, ap, subst, ◌∙◌, zero-add, lit<, arith}
+use Rattle.std.proofs.Common.{◌≡◌, ℕ, ◌-◌, ◌*◌, ◌/◌, ◌^◌, ◌<◌, Bool, List, length, replicate, Some, Ok, Option, Result, IfOk, IfSome, ℤ, get_or, sym, ap, subst, ◌∙◌, zero-add, lit<, arith}
 use Rattle.std.proofs.lemmas.Bool.{cond_below}
 use Rattle.std.proofs.lemmas.List.{ext_get_or}
 use Rattle.std.proofs.lemmas.List.FromFn.{length-map-range_with_len, get_or-map-range_with_len}
@@ -11,10 +11,9 @@ use Rattle.laboratory.specs.Tabling.{first_drawn, OfRegister}
 use Rattle.plan.specs.Scheme.{Scheme, sent_length}
 use Rattle.receiver.specs.Views.{View}
 use Rattle.replay.specs.Given.{given}
-use Rattle.replay.specs.Ledger.{ledger}
 use Rattle.replay.specs.Promise.{Promise}
 use Rattle.replay.specs.declared.call.Call.{Call}
-use Rattle.score.specs.Blocks.{value_at, block_score}
+use Rattle.score.specs.Blocks.{block_score}
 use Rattle.score.specs.Kinds.{total_scale}
 use Rattle.scrambler.specs.Meaning.{Meaning, reach}
 use Rattle.scrambler.specs.Shifts.{drawn}

@@ -1,6 +1,6 @@
 -- Which calls a receiver gets of one block, and how they leave the air.
 -- Assumes nothing.
-use Rattle.std.specs.Prelude.{ℕ, zero, suc, ◌%◌, Bool, cond, ◌&&◌, List, [], ◌∷◌, length, map, ◌==◌, nat_lt, slice_index}
+use Rattle.std.specs.Prelude.{ℕ, zero, suc, ◌%◌, Bool, cond, ◌&&◌, List, [], ◌∷◌, length, ◌==◌, nat_lt, slice_index}
 use Rattle.std.specs.List.{range_with_len, flat_map}
 use Rattle.channel.specs.Airs.{arrived, aired}
 use Rattle.channel.specs.Drawing.{state_after, drawn, reordered}

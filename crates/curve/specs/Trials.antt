@@ -1,6 +1,6 @@
 -- One block, from drawn bits to the block that is shown and its score.
 -- Assumes nothing.
-use Rattle.std.specs.Prelude.{◌≡◌, ℕ, ◌*◌, ◌/◌, ◌^◌, List, length, ℤ, replicate}
+use Rattle.std.specs.Prelude.{◌≡◌, ℕ, ◌*◌, ◌/◌, ◌^◌, List, ℤ, replicate}
 use Rattle.channel.specs.Drawing.{drawn_bits}
 use Rattle.channel.specs.declared.air.Air.{Air}
 use Rattle.code.specs.Numbers.{bits_of}

@@ -44,12 +44,7 @@ impl OnAir<'_> {
     }
 
     // The calls that hear every symbol once, in the order of sending, in which the air fades.
-    fn hearings(
-        &self,
-        heap: Global,
-        table: &mut Table,
-        air: &mut Air,
-    ) -> Result<Vec<Call>, Trouble>
+    fn hearings(&self, heap: Global, table: &mut Table, air: &mut Air) -> Result<Vec<Call>, Trouble>
         ensures calls { IfOk result (λ v. v.items ≡ map (first_hearing (plan_scheme self.now.plan.now) (table_meaning table.old) self.now.indices.now air.old) (range_with_len 0 (length self.now.indices.now))) }
         ensures air { OnOk result (air.new ≡ air_after (length self.now.indices.now) air.old) }
         ensures table { table_meaning table.new ≡ table_meaning table.old }

@@ -1,4 +1,4 @@
-use Rattle.std.proofs.Common.{◌≡◌, refl, ap, subst, ◌∙◌, to_z, of_z, w8, rules}
+use Rattle.std.proofs.Common.{◌≡◌, refl, subst, to_z, of_z, w8, rules}
 use Rattle.rows.specs.Schemes.{row_scheme}
 use Rattle.curve.specs.Dots.{IsDot}
 use Rattle.curve.proofs.Counted.{Stands, always, finished, one_more}

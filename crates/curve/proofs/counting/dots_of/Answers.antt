@@ -1,4 +1,4 @@
-use Rattle.std.proofs.Common.{◌≡◌, ◌+◌, ◌<◌, ◌++◌, [], ◌∷◌, length, pos, ◌+ℤ◌, ◌≤ℤ◌, false, sym, ap, subst, ◌∙◌, length-append, to_z, of_z, w8, arith, rules}
+use Rattle.std.proofs.Common.{◌≡◌, ◌+◌, ◌++◌, [], ◌∷◌, length, pos, ◌+ℤ◌, ◌≤ℤ◌, false, sym, ap, subst, ◌∙◌, length-append, to_z, of_z, w8, arith, rules}
 use Rattle.std.specs.Int.Signed.{le_z, lt_z}
 use Rattle.std.proofs.Math.IntN.{+ℤ_idr}
 use Rattle.curve.specs.Dots.{IsCurve}
@@ -39,13 +39,13 @@ returns c =
     let l = c.loop-decibels.invariant in
     let run = c.args.run in
     elim c.loop-decibels-test.branch [
-      else-loop-decibels-test w ↦
+      | else-loop-decibels-test w ↦
           let same : to_z w8 (of_z w8 run.to) ≡ run.to = search rules in
           let past : le_z (to_z w8 c.loop-decibels.decibels-counter-bits) run.to ≡ false =
           ap (le_z (to_z w8 c.loop-decibels.decibels-counter-bits)) (sym same) ∙ w.loop-decibels-test.false in
           let none : run.from ≤ℤ run.to → ⊥ = no_more run.from run.to (to_z w8 c.loop-decibels.decibels-counter-bits) (length c.loop-decibels.dots.items) l.ratio l.within past in
           subst (IsCurve run) (sym (ap (λ v. v.items) w.dots-is)) (record { last = λ h. absurd (none h); each = l.each })
-    | then-loop-decibels-test+in_ok-dot+in_ok-eprintln+in_ok-push+else-decibels-counter-decibels-end w ↦
+      | then-loop-decibels-test+in_ok-dot+in_ok-eprintln+in_ok-push+else-decibels-counter-decibels-end w ↦
           let dots = c.loop-decibels.dots.items in
           let dot = w.in_ok-dot.dot in
           let items : c.loop-decibels-test.dots.items ≡ dots ++ dot ∷ [] = ap (λ v. v.items) w.dots-is ∙ w.in_ok-push.ensures.items in

@@ -1,4 +1,4 @@
-use Rattle.std.proofs.Common.{◌≡◌, ◌-◌, ◌*◌, ◌/◌, ◌^◌, ◌≤◌, min, length, is_ok, Ok, ap, ◌∙◌, pow_mono, arith}
+use Rattle.std.proofs.Common.{◌≡◌, ◌*◌, ◌/◌, ◌^◌, ◌≤◌, is_ok, Ok, ap, ◌∙◌, pow_mono, arith}
 use Rattle.code.specs.Numbers.{bits_of}
 use Rattle.plan.specs.Plans.{plan_scheme}
 use Rattle.receiver.specs.Receivers.{view}

@@ -1,4 +1,4 @@
-use Rattle.std.proofs.Common.{◌≡◌, length, map}
+use Rattle.std.proofs.Common.{◌≡◌, length}
 use Rattle.std.specs.List.{range_with_len, flat_map}
 use Rattle.plan.specs.Plans.{plan_scheme}
 use Rattle.scrambler.specs.Meanings.{table_meaning}
