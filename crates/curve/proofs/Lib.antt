@@ -1,3 +1,1 @@
-mod Counted
-mod Tried
-mod Turns
+pub mod Requests
