@@ -67,10 +67,15 @@ has_equals (x ∷ xs) (y ∷ ys) vs a e = has_equals xs ys vs a.1 cc
 unknown_word : (word name value : List ℕ) → word ≡ valued name value → ((i : ℕ) → i < length name → get_or name i 0 ≢ 61) → IsNoName name → IsUnknown word
 unknown_word word name value e lacks none =
     let cut : (other rest text : List ℕ) → AllByRecursion (λ b. b ≢ 61) text → word ≡ valued other rest → (name ≢ text) → other ≢ text = λ other rest text a q no same.
-        no (same_front text name rest value a lacks (ap (λ l. l ++ (61 ∷ rest)) (sym same) ∙ sym q ∙ e)) in
-    ((λ svg. has_equals (codes "--svg") name value (search rules) (sym svg ∙ e)),
-    (λ other rest q. (cut other rest (codes "--from") (search rules) q none.0, cut other rest (codes "--to") (search rules) q none.1,
-    cut other rest (codes "--blocks") (search rules) q none.2, cut other rest (codes "--seed") (search rules) q none.3)))
+    no (same_front text name rest value a lacks (ap (λ l. l ++ (61 ∷ rest)) (sym same) ∙ sym q ∙ e)) in (
+      (λ svg. has_equals (codes "--svg") name value (search rules) (sym svg ∙ e)),
+      (λ other rest q. (
+        cut other rest (codes "--from") (search rules) q none.0,
+        cut other rest (codes "--to") (search rules) q none.1,
+        cut other rest (codes "--blocks") (search rules) q none.2,
+        cut other rest (codes "--seed") (search rules) q none.3,
+      )),
+    )
 
 -- what a name and a value are, the word of both is
 pub valued_word : (word name value : List ℕ) (r : Result Setting Slip) → word ≡ valued name value → ((i : ℕ) → i < length name → get_or name i 0 ≢ 61) →

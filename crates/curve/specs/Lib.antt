@@ -5,3 +5,6 @@ pub mod Usual
 pub mod Sentences
 pub mod Words
 pub mod Checksum
+pub mod Dots
+pub mod Captions
+pub mod Plots

@@ -9,7 +9,6 @@ use Rattle.curve.specs.Sentences.{no_number}
 use Rattle.curve.specs.Usual.{usual_choice, usual_run}
 use Rattle.curve.specs.declared.choice.Choice.{Choice}
 use Rattle.curve.specs.declared.choice.Run.{Run}
-
 use Rattle.curve.specs.declared.request.Request.{Request}
 use Rattle.curve.specs.declared.request.Request.TheVariants.{Rows, Time, Send, Curve}
 use Rattle.curve.specs.declared.request.Setting.{Setting}

@@ -32,3 +32,16 @@ pub(crate) fn crc32(bytes: &[u8]) -> u32
         .fold(u32::MAX, |remainder, byte| taken_in(remainder, *byte))
         ^ u32::MAX
 }
+
+#[cfg(test)]
+mod tests {
+    use super::*;
+    use std::test::Fail;
+
+    // The value by which a CRC-32 is known.
+    #[test]
+    fn digits_have_the_known_checksum(rt: HostRuntime) -> Result<(), Fail> {
+        assert_eq!(rt; crc32(b"123456789"), 0xcbf4_3926);
+        Ok(())
+    }
+}

@@ -1,5 +1,6 @@
 // Which chain is run: a row of the standard, and a code.
-ghost use Rattle.std.specs.Prelude.{◌≡◌};
+ghost use Rattle.std.specs.Prelude.{◌≡◌, Some};
+ghost use Rattle.curve.specs.Captions.{caption, interleaver_note, named_caption};
 ghost use Rattle.curve.specs.Usual.{usual_choice, usual_run};
 
 use rows::{Interleaver, Row};
@@ -41,8 +42,10 @@ impl Choice {
     }
 }
 
-// The numbers of the choice; as an alternate form, with the interleaver's name.
+// The numbers of the choice.
 impl fmt::Display for Choice {
+    ghost output = { λ choice. Some (caption choice) };
+
     fn fmt<W: fmt::Write>(&self, f: &mut fmt::Formatter<W>) -> fmt::Result {
         let Choice { row, constraint } = *self;
         let Row {
@@ -52,14 +55,45 @@ impl fmt::Display for Choice {
         } = row;
         write!(
             f,
-            "{bandwidth} kHz, waveform {waveform}, interleaver {interleaver}"
-        )?;
-        if f.alternate() {
-            if let Ok(name) = Interleaver::try_from(interleaver) {
-                write!(f, " ({name})")?;
-            }
+            "{bandwidth} kHz, waveform {waveform}, interleaver {interleaver}, constraint length {constraint}"
+        )
+    }
+}
+
+// The name behind an interleaver's number, if it has one.
+#[derive(Clone, Copy)]
+struct Note(usize);
+
+impl fmt::Display for Note {
+    ghost output = { λ note. Some (interleaver_note note.0) };
+
+    fn fmt<W: fmt::Write>(&self, f: &mut fmt::Formatter<W>) -> fmt::Result {
+        match Interleaver::try_from(self.0) {
+            Ok(name) => write!(f, " ({name})"),
+            Err(_) => Ok(()),
         }
-        write!(f, ", constraint length {constraint}")
+    }
+}
+
+// The numbers of a choice, with the interleaver's name.
+#[derive(Clone, Copy)]
+pub(crate) struct Named(pub(crate) Choice);
+
+impl fmt::Display for Named {
+    ghost output = { λ named. Some (named_caption named.0) };
+
+    fn fmt<W: fmt::Write>(&self, f: &mut fmt::Formatter<W>) -> fmt::Result {
+        let Choice { row, constraint } = self.0;
+        let Row {
+            bandwidth,
+            waveform,
+            interleaver,
+        } = row;
+        let note = Note(interleaver);
+        write!(
+            f,
+            "{bandwidth} kHz, waveform {waveform}, interleaver {interleaver}{note}, constraint length {constraint}"
+        )
     }
 }
 

@@ -2,7 +2,7 @@
 ghost use Rattle.std.specs.Prelude.{◌<◌};
 
 use crate::checksum::crc32;
-use crate::choice::{Choice, Run};
+use crate::choice::{Choice, Named, Run};
 use crate::counting::dots_of;
 use crate::plot::{show_dots, show_plot};
 use crate::sent::{Sent, drawn_and_sent};
@@ -43,8 +43,8 @@ pub(crate) fn show_curve(rt: &HostRuntime, run: Run) -> Result<(), Trouble> {
     let plan = run.choice.row.plan(rt.alloc(), run.choice.constraint)?;
     show_choice(rt, run.choice)?;
     show_plan(rt, &plan)?;
-    show_dots(rt, dots.as_slice())?;
-    Ok(show_plot(rt, run.choice, dots.as_slice())?)
+    show_dots(rt.alloc(), &mut rt.stdout(), dots.as_slice())?;
+    Ok(show_plot(&mut rt.stdout(), run.choice, dots.as_slice())?)
 }
 
 // Draws a block, sends it, and shows the row, the block and the first frame.
@@ -72,7 +72,8 @@ pub(crate) fn show_time(rt: &HostRuntime) -> Result<(), Trouble> {
 }
 
 fn show_choice(rt: &HostRuntime, choice: Choice) -> io::Result<()> {
-    println!(rt; "{choice:#}")?;
+    let named = Named(choice);
+    println!(rt; "{named}")?;
     let Some(entry) = choice.row.entry() else {
         return Ok(());
     };

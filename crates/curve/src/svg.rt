@@ -1,4 +1,6 @@
 // The curve as SVG.
+ghost use Rattle.std.specs.Prelude.{◌≡◌, ◌+◌, ◌-◌, ◌*◌, ◌^◌, min};
+
 use crate::choice::Choice;
 use crate::counting::Dot;
 use std::io;
@@ -22,12 +24,16 @@ fn steps_below(rate: f64) -> usize {
 }
 
 // The heights of the picture's lines, from its top. Not one function with the place of a column: the numbers of the two scales would stand at each call.
-fn height(steps: usize) -> usize {
+fn height(steps: usize) -> usize
+    ensures { result ≡ min (steps * 4 + 40) (2 ^ 64 - 1) }
+{
     steps.saturating_mul(4).saturating_add(40)
 }
 
 // The place of a column from the left.
-fn across(column: usize) -> usize {
+fn across(column: usize) -> usize
+    ensures { result ≡ min (column * 50 + 90) (2 ^ 64 - 1) }
+{
     column.saturating_mul(50).saturating_add(90)
 }
 
@@ -83,4 +89,21 @@ fn show_circles(rt: &HostRuntime, dots: &[Dot]) -> io::Result<()> {
         )?;
     }
     Ok(())
+}
+
+#[cfg(test)]
+mod tests {
+    use super::*;
+    use std::test::Fail;
+
+    // Twenty steps are a power of ten: a half is between the sixth and the seventh.
+    #[test]
+    fn rates_stand_on_their_steps(rt: HostRuntime) -> Result<(), Fail> {
+        assert_eq!(rt; steps_below(1.0), 0);
+        assert_eq!(rt; steps_below(STEP), 1);
+        assert_eq!(rt; steps_below(0.5), 6);
+        assert_eq!(rt; steps_below(0.11), 19);
+        assert_eq!(rt; steps_below(0.0), STEPS);
+        Ok(())
+    }
 }

@@ -11,7 +11,7 @@ returns-in_err-setting_of c =
     let words = drop_words ws i c.word-item.result c.as_str.result.now (omega arith) c.word-item.is c.as_str.ensures.value in
     let slip = c.in_err-setting_of.field-0.0 in
     let told : RefusesAll (bytes_of ws) (slip_sentence slip) =
-        c.loop-word.invariant.refuses (slip_sentence slip) (subst (λ l. RefusesAll l (slip_sentence slip)) (sym words) (inl c.in_err-setting_of.ensures)) in
+    c.loop-word.invariant.refuses (slip_sentence slip) (subst (λ l. RefusesAll l (slip_sentence slip)) (sym words) (inl c.in_err-setting_of.ensures)) in
     search (rules, told)
 
 pub loop-word-preserved : goal.loop-word-preserved
