@@ -43,7 +43,7 @@ pub lines_more : {X : Type 0} (dots : List Dot) (labels : List X) (f : X → Lis
 lines_more dots labels f i d text h e =
     let x = get_or labels i d in
     let before = map f (take i labels) in
-    let long : 0 + length before ≡ i = omega (arith, length-map f (take i labels), length-take i labels) in
+    let long : 0 + length before ≡ i = omega (arith, length-map (take i labels) f, length-take i labels) in
     ap (λ t. plot_lines dots 0 before ++ t) e
     ∙ sym (ap (λ l. plot_lines dots 0 (map f l)) (take_more labels i d h) ∙ ap (plot_lines dots 0) (map-append f (take i labels) (x ∷ []))
     ∙ lines_push dots 0 before (f x) ∙ ap (λ n. plot_lines dots 0 before ++ plot_line dots n (f x)) long)
