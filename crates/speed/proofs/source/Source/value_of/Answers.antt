@@ -7,6 +7,7 @@ use Rattle.speed.proofs.source.Source.value_of.Goals as goal
 use Rattle.speed.proofs.source.Source.value_of.Goals.{then-bit, else-bit}
 
 pub returns-clause-value : goal.returns-clause-value
+unfolding lib.Ieee.of_bits
 returns-clause-value c =
     let clamped : to_z w16 (of_z w16 c.clamp.result) ≡ c.clamp.result = search rules in
     let whole : to_z w16 (of_z w16 c.saturating_f64_to_i16.result) ≡ c.saturating_f64_to_i16.result = search rules in
