@@ -2,11 +2,24 @@ use Rattle.std.proofs.Common.{◌≡◌, ◌+◌, ◌-◌, ◌<◌, ◌≤◌, [
 use Rattle.std.proofs.lemmas.List.{length_push}
 use Rattle.lines.specs.Answers.{answer_text}
 use Rattle.lines.specs.Streams.{lines_of, left, NextLine}
-use Rattle.lines.proofs.Following.{appends_both, all_lines, first_lines}
+use Rattle.lines.proofs.Following.{appends_none, appends_both, all_lines, first_lines}
 use Rattle.session.specs.Sessions.{held}
 use Rattle.bench.specs.Answering.{Replied}
 use Rattle.bench.proofs.Answered.{answered_more}
 use Rattle.bench.proofs.answer_lines.Goals as goal
+
+pub loop-number-init : goal.loop-number-init
+loop-number-init g c = (
+  [],
+  [],
+  held c.in_ok-session.session,
+  refl,
+  c.in_ok-session.ensures.0,
+  c.in_ok-session.ensures.1,
+  (refl, refl),
+  appends_none _,
+  λ input e. (input, e, refl),
+)
 
 pub loop-number-preserved : goal.loop-number-preserved
 loop-number-preserved g c =
@@ -14,7 +27,7 @@ loop-number-preserved g c =
     let remaining = g.R.Read.remaining in
     let contents = g.W.Write.contents in
     let n : NextLine (left remaining c.loop-number.lines) (left remaining c.advance.new.self) c.advance.new.self.line.kept.items (Ok true) =
-    subst (NextLine (left remaining c.loop-number.lines) (left remaining c.advance.new.self) c.advance.new.self.line.kept.items) (c.in_ok-advance.was ∙ ap Ok c.if-branch.false) c.advance.ensures in
+    subst (NextLine (left remaining c.loop-number.lines) (left remaining c.advance.new.self) c.advance.new.self.line.kept.items) (c.in_ok-advance.was ∙ ap Ok c.if-not-branch.false) c.advance.ensures in
     let r = c.in_ok-write_answer.ensures n.0 (c.line.ensures ∙ n.1) in
     let now = held c.write_answer.new.session in
     let by_number = subst (λ m. Replied m n.0 (held c.loop-number.session) now r.0) (let e : c.loop-number.number + 1 ≡ 1 + length a.0 = omega (arith, a.3) in e) r.1 in (
@@ -31,14 +44,14 @@ loop-number-preserved g c =
           (k.0, k.1, i.2 ∙ ap (λ l. a.0 ++ l) k.2 ∙ sym (append_assoc a.0 (n.0 ∷ []) (lines_of k.0))),
     )
 
-pub returns-then-branch : goal.returns-then-branch
-returns-then-branch g c =
+pub returns-then-not-branch : goal.returns-then-not-branch
+returns-then-not-branch g c =
     let a = c.loop-number.invariant in
     let remaining = g.R.Read.remaining in
     let near : c.loop-number.number < 65535 = search rules in
     let few : length a.0 ≤ 65535 = omega (arith, a.3, near) in
     let n : NextLine (left remaining c.loop-number.lines) (left remaining c.advance.new.self) c.advance.new.self.line.kept.items (Ok false) =
-    subst (NextLine (left remaining c.loop-number.lines) (left remaining c.advance.new.self) c.advance.new.self.line.kept.items) (c.in_ok-advance.was ∙ ap Ok c.if-branch.true) c.advance.ensures in (
+    subst (NextLine (left remaining c.loop-number.lines) (left remaining c.advance.new.self) c.advance.new.self.line.kept.items) (c.in_ok-advance.was ∙ ap Ok c.if-not-branch.true) c.advance.ensures in (
       a.1,
       record {
         lines = a.0;
