@@ -10,19 +10,11 @@ use Rattle.search.specs.Looking.{Lengths}
 use Rattle.reception.specs.Receiving.{Replied, Received}
 use Rattle.reception.specs.declared.written.ScoreText.{ScoreText}
 
-pub appends_none : (a : Option (List ℕ)) → Appends a a []
-appends_none None = tt
-appends_none (Some xs) = sym (append-nil xs)
-
 pub then_keeps : (a b c : Option (List ℕ)) (x : List ℕ) → Appends a b x → Keeps b c → Appends a c x
 then_keeps None b c x h k = tt
 then_keeps (Some xs) None c x h k = absurd h
 then_keeps (Some xs) (Some ys) None x h k = absurd k
 then_keeps (Some xs) (Some ys) (Some zs) x h k = k ∙ h
-
-pub on_ok : {X E : Type 0} (r : Result X E) (P Q : Type 0) → (P → Q) → OnOk r P → OnOk r Q
-on_ok (Ok x) P Q f h = f h
-on_ok (Err e) P Q f h = tt
 
 pub always : {X E : Type 0} (r : Result X E) (Q : Type 0) → Q → OnOk r Q
 always (Ok x) Q h = h

@@ -4,7 +4,7 @@ use Rattle.std.specs.Result.{OnOk}
 use Rattle.entries.specs.Texts.{refusal_text}
 use Rattle.reception.specs.Receiving.{answer_text}
 use Rattle.reception.specs.Written.{shown_text}
-use Rattle.reception.proofs.Received.{appends_none, on_ok}
+use Rattle.lines.proofs.Following.{appends_none, on_ok}
 use Rattle.reception.proofs.receiving.answer.Goals as goal
 
 pub returns-in-Ok-None-clause-replied : goal.returns-in-Ok-None-clause-replied
