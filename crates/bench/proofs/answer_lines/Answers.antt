@@ -1,6 +1,7 @@
 use Rattle.std.proofs.Common.{◌≡◌, ◌+◌, ◌-◌, ◌<◌, ◌≤◌, [], ◌∷◌, ◌++◌, length, true, false, Ok, sym, refl, ap, ◌∙◌, subst, append_assoc, arith, rules}
 use Rattle.std.proofs.lemmas.List.{length_push}
 use Rattle.lines.specs.Answers.{answer_text}
+use Rattle.std.specs.declared.io.Error.{Error}
 use Rattle.lines.specs.Streams.{lines_of, left, NextLine}
 use Rattle.lines.proofs.Following.{appends_none, appends_both, all_lines, first_lines}
 use Rattle.session.specs.Sessions.{held}
@@ -26,8 +27,8 @@ loop-number-preserved g c =
     let a = c.loop-number.invariant in
     let remaining = g.R.Read.remaining in
     let contents = g.W.Write.contents in
-    let n : NextLine (left remaining c.loop-number.lines) (left remaining c.advance.new.self) c.advance.new.self.line.kept.items (Ok true) =
-    subst (NextLine (left remaining c.loop-number.lines) (left remaining c.advance.new.self) c.advance.new.self.line.kept.items) (c.in_ok-advance.was ∙ ap Ok c.if-not-branch.false) c.advance.ensures in
+    let n : NextLine {E = Error} (left remaining c.loop-number.lines) (left remaining c.advance.new.self) c.advance.new.self.line.kept.items (Ok true) =
+    subst (NextLine {E = Error} (left remaining c.loop-number.lines) (left remaining c.advance.new.self) c.advance.new.self.line.kept.items) (c.in_ok-advance.was ∙ ap Ok c.if-not-branch.false) c.advance.ensures in
     let r = c.in_ok-write_answer.ensures n.0 (c.line.ensures ∙ n.1) in
     let now = held c.write_answer.new.session in
     let by_number = subst (λ m. Replied m n.0 (held c.loop-number.session) now r.0) (let e : c.loop-number.number + 1 ≡ 1 + length a.0 = omega (arith, a.3) in e) r.1 in (
@@ -50,8 +51,8 @@ returns-then-not-branch g c =
     let remaining = g.R.Read.remaining in
     let near : c.loop-number.number < 65535 = search rules in
     let few : length a.0 ≤ 65535 = omega (arith, a.3, near) in
-    let n : NextLine (left remaining c.loop-number.lines) (left remaining c.advance.new.self) c.advance.new.self.line.kept.items (Ok false) =
-    subst (NextLine (left remaining c.loop-number.lines) (left remaining c.advance.new.self) c.advance.new.self.line.kept.items) (c.in_ok-advance.was ∙ ap Ok c.if-not-branch.true) c.advance.ensures in (
+    let n : NextLine {E = Error} (left remaining c.loop-number.lines) (left remaining c.advance.new.self) c.advance.new.self.line.kept.items (Ok false) =
+    subst (NextLine {E = Error} (left remaining c.loop-number.lines) (left remaining c.advance.new.self) c.advance.new.self.line.kept.items) (c.in_ok-advance.was ∙ ap Ok c.if-not-branch.true) c.advance.ensures in (
       a.1,
       record {
         lines = a.0;

@@ -1,6 +1,7 @@
 use Rattle.std.proofs.Common.{◌≡◌, ◌+◌, ◌-◌, ◌^◌, ◌<◌, ◌≤◌, [], ◌∷◌, ◌++◌, length, true, false, Ok, sym, ap, ◌∙◌, subst, append_assoc, arith, rules}
 use Rattle.std.proofs.lemmas.List.{length_push}
 use Rattle.std.specs.Io.KnownBytes.{Appends}
+use Rattle.std.specs.declared.io.Error.{Error}
 use Rattle.lines.specs.Streams.{lines_of, left, NextLine}
 use Rattle.lines.proofs.Following.{appends_both, all_lines, first_lines}
 use Rattle.receiver.specs.Receivers.{view_of}
@@ -22,8 +23,8 @@ loop-number-preserved g c =
     let inv = c.loop-number.invariant in
     let a = inv.answered in
     let remaining = g.R.Read.remaining in
-    let n : NextLine (left remaining c.loop-number.lines) (left remaining c.advance.new.self) c.advance.new.self.line.kept.items (Ok true) =
-    subst (NextLine (left remaining c.loop-number.lines) (left remaining c.advance.new.self) c.advance.new.self.line.kept.items) (c.in_ok-advance.was ∙ ap Ok c.if-not-branch.false) c.advance.ensures in
+    let n : NextLine {E = Error} (left remaining c.loop-number.lines) (left remaining c.advance.new.self) c.advance.new.self.line.kept.items (Ok true) =
+    subst (NextLine {E = Error} (left remaining c.loop-number.lines) (left remaining c.advance.new.self) c.advance.new.self.line.kept.items) (c.in_ok-advance.was ∙ ap Ok c.if-not-branch.false) c.advance.ensures in
     let r = c.in_ok-answer.ensures.replied n.0 (c.line-line.ensures ∙ n.1) in
     let now = c.answer.new.reception.values.items in
     let by_kind = subst (λ q. Replied (scale q) written (view_of g.S.Scrambler.meaning y.receiver) (given y.values.items y.block.items y.scores.items y.marks.items) (c.loop-number.number + 1) n.0 y.values.items now r.0) inv.kind r.1 in
@@ -57,8 +58,8 @@ returns-then-not-branch-clause-received g c =
     let a = c.loop-number.invariant.answered in
     let near : c.loop-number.number < 2 ^ 64 - 1 = search rules in
     let few : length a.0 ≤ 2 ^ 64 - 1 = omega (arith, a.2, near) in
-    let n : NextLine (left remaining c.loop-number.lines) (left remaining c.advance.new.self) c.advance.new.self.line.kept.items (Ok false) =
-    subst (NextLine (left remaining c.loop-number.lines) (left remaining c.advance.new.self) c.advance.new.self.line.kept.items) (c.in_ok-advance.was ∙ ap Ok c.if-not-branch.true) c.advance.ensures in
+    let n : NextLine {E = Error} (left remaining c.loop-number.lines) (left remaining c.advance.new.self) c.advance.new.self.line.kept.items (Ok false) =
+    subst (NextLine {E = Error} (left remaining c.loop-number.lines) (left remaining c.advance.new.self) c.advance.new.self.line.kept.items) (c.in_ok-advance.was ∙ ap Ok c.if-not-branch.true) c.advance.ensures in
     (a.0, a.1, a.3, a.4, λ input e. let i = a.5 input e in all_lines (2 ^ 64 - 1) (lines_of input) a.0 (lines_of i.0) i.2 (n i.0 i.1) few)
 
 pub returns-clause-received : goal.returns-clause-received
