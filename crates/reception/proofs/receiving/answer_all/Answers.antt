@@ -1,15 +1,23 @@
-use Rattle.std.proofs.Common.{◌≡◌, ◌+◌, ◌-◌, ◌^◌, ◌<◌, ◌≤◌, [], ◌∷◌, ◌++◌, length, true, false, Ok, sym, ap, ◌∙◌, subst, append_assoc, arith, rules}
+use Rattle.std.proofs.Common.{◌≡◌, ◌+◌, ◌-◌, ◌^◌, ◌<◌, ◌≤◌, [], ◌∷◌, ◌++◌, length, true, false, Ok, sym, refl, ap, ◌∙◌, subst, append_assoc, arith, rules}
 use Rattle.std.proofs.lemmas.List.{length_push}
 use Rattle.std.specs.Io.KnownBytes.{Appends}
 use Rattle.std.specs.declared.io.Error.{Error}
 use Rattle.lines.specs.Streams.{lines_of, left, NextLine}
-use Rattle.lines.proofs.Following.{appends_both, all_lines, first_lines}
+use Rattle.lines.proofs.Following.{appends_none, appends_both, all_lines, first_lines}
 use Rattle.receiver.specs.Receivers.{view_of}
 use Rattle.replay.specs.Given.{given}
 use Rattle.reception.specs.Receiving.{Replied}
 use Rattle.reception.proofs.Received.{then_keeps, received_more}
 use Rattle.reception.proofs.receiving.answer_all.Goals as goal
 use Rattle.reception.proofs.receiving.answer_all.Goals.{then-is_look+in_ok-flush+in_ok-announce, else-is_look}
+
+pub loop-number-init : goal.loop-number-init
+loop-number-init g c = record {
+  answered = ([], [], refl, (refl, refl), appends_none _, λ input e. (input, e, refl));
+  kept = refl;
+  kind = refl;
+  lengths = refl;
+}
 
 pub loop-number-preserved : goal.loop-number-preserved
 loop-number-preserved g c =

@@ -1,9 +1,9 @@
-use Rattle.std.proofs.Common.{◌++◌, refl, ◌∙◌, subst}
-use Rattle.lines.proofs.Following.{appends_both, new_reader}
+use Rattle.std.proofs.Common.{ℕ, List, ◌++◌, refl, ◌∙◌, subst}
+use Rattle.std.specs.Io.KnownBytes.{Appends}
+use Rattle.lines.proofs.Following.{on_ok, appends_both, new_reader}
 use Rattle.receiver.specs.Receivers.{view_of}
 use Rattle.replay.specs.Given.{given}
 use Rattle.reception.specs.Receiving.{Last}
-use Rattle.reception.proofs.Received.{then_keeps, always}
 use Rattle.reception.proofs.receiving.receive.Goals as goal
 
 pub returns : goal.returns
@@ -15,14 +15,15 @@ returns g c =
     let v = view_of g.S.Scrambler.meaning x.receiver in
     let e = c.in_ok-answer_all.ensures in
     let a = e.received in
-    let b = c.in_ok-show_last.ensures in
     let held = c.in_ok-reader.ensures in
     let begun = c.new-lines.ensures ∙ new_reader g.R.Read.remaining c.in_ok-reader.reader c.args.input held.capacity held.empty held.inner in
-    let by_kind = subst (λ q. Last (scale q) written (view_of g.S.Scrambler.meaning y.receiver) (given y.values.items y.block.items y.scores.items y.marks.items) y.values.items b.0) e.kind b.1 in
-    let by_view = subst (λ q. Last (scale x.kind) written q (given y.values.items y.block.items y.scores.items y.marks.items) y.values.items b.0) e.kept by_kind in
-    let by_lengths = subst (λ q. Last (scale x.kind) written v q y.values.items b.0) e.lengths by_view in
-    always c.flush.result _ (
-      a.1 ++ b.0,
-      record { lines = a.0; left = y.values.items; body = a.1; end = b.0; every = λ bytes f. a.4 bytes (begun ∙ f); received = a.2; shown = by_lengths; all = refl },
-      then_keeps _ _ _ (a.1 ++ b.0) (appends_both _ _ _ a.1 b.0 a.3 b.2) c.flush.ensures.bytes,
-    )
+    let wholly = given y.values.items y.block.items y.scores.items y.marks.items in
+    let seen = view_of g.S.Scrambler.meaning y.receiver in
+    on_ok c.show_last.result ((text : List ℕ) × Last (scale y.kind) written seen wholly y.values.items text × Appends (g.W.Write.contents c.answer_all.new.output) (g.W.Write.contents c.show_last.new.output) text) _ (λ b.
+        let by_kind = subst (λ q. Last (scale q) written seen wholly y.values.items b.0) e.kind b.1 in
+        let by_view = subst (λ q. Last (scale x.kind) written q wholly y.values.items b.0) e.kept by_kind in
+        let by_lengths = subst (λ q. Last (scale x.kind) written v q y.values.items b.0) e.lengths by_view in (
+          a.1 ++ b.0,
+          record { lines = a.0; left = y.values.items; body = a.1; end = b.0; every = λ bytes f. a.4 bytes (begun ∙ f); received = a.2; shown = by_lengths; all = refl },
+          appends_both _ _ _ a.1 b.0 a.3 b.2,
+        )) c.show_last.ensures
