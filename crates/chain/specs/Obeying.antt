@@ -1,25 +1,14 @@
 -- What an order to send and an order to count do with their streams.
 -- Assumes nothing.
-use Rattle.std.specs.Prelude.{◌≡◌, ℕ, List, Some, None, Option, codes}
-use Rattle.std.specs.Option.{option_map}
+use Rattle.std.specs.Prelude.{◌≡◌, ℕ, List, Some, None, Option}
 use Rattle.std.specs.Io.KnownBytes.{Appends}
 use Rattle.bits_text.specs.Blocks.{blocks}
 use Rattle.comparison.specs.Comparing.{nothing, compared}
 use Rattle.comparison.specs.Report.{report}
 use Rattle.laboratory.specs.Sending.{on_air, bit_lines, drawn_blocks, Cut}
 use Rattle.orders.specs.declared.order.Drawing.{Drawing}
-use Rattle.orders.specs.declared.settings.Settings.{Settings}
 use Rattle.plan.specs.Scheme.{Scheme}
 use Rattle.scrambler.specs.Meaning.{Meaning}
-
--- the file that the sent blocks go to: sent.txt where they are drawn and no file is named
-abbrev pub copy_of : Option Drawing → Option (List ℕ) → Option (List ℕ)
-copy_of drawing (Some name) = Some name
-copy_of None None = None
-copy_of (Some d) None = Some (codes "sent.txt")
-
-abbrev pub copied : Settings → Option (List ℕ)
-copied s = copy_of s.drawing (option_map (λ name. name.now) s.copy)
 
 -- the blocks that are drawn, or else those of the text, are on the air and in the copy
 abbrev pub Sent : Scheme → Meaning → Option Drawing → Option (List ℕ) → Option (List ℕ) → Option (List ℕ) → Option (List ℕ) → Option (List ℕ) → Type 0

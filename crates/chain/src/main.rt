@@ -7,7 +7,7 @@ mod stop;
 use crate::obeying::obey;
 use crate::stop::Stop;
 use orders::order_of;
-use std::io::{BufReader, BufWriter, Write, writer};
+use std::io::{BufWriter, Write, writer};
 use std::process::ExitCode;
 use std::{env, io};
 
@@ -34,8 +34,7 @@ fn words_of(rt: &HostRuntime) -> io::Result<Vec<String>> {
 // Does what the words ask for.
 fn run<'a>(rt: &HostRuntime, words: &'a [String]) -> Result<(), Stop<'a>> {
     let order = order_of(words)?;
-    let input = BufReader::new(rt.alloc(), rt.stdin())?;
     let mut output = BufWriter::new(rt.alloc(), writer(rt))?;
-    obey(rt, order, input, &mut output, &mut rt.stderr())?;
+    obey(rt, order, &mut output, &mut rt.stderr())?;
     Ok(output.flush()?)
 }

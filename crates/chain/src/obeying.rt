@@ -1,9 +1,8 @@
 // What each order does with the files and the streams.
 ghost use Rattle.std.specs.Prelude.{◌≡◌, OnOk};
-ghost use Rattle.std.specs.Option.{option_map};
 ghost use Rattle.plan.specs.Plans.{plan_scheme};
 ghost use Rattle.scrambler.specs.Meanings.{table_meaning};
-ghost use Rattle.chain.specs.Obeying.{copied, Sent, Counted};
+ghost use Rattle.chain.specs.Obeying.{Sent, Counted};
 
 use crate::stop::Stop;
 use laboratory::{count, register_table, send_drawn, send_text, table_of, write_plan, write_rows};
@@ -20,27 +19,21 @@ use std::io::{BufReader, BufWriter, Read, Write, sink};
 // Where the blocks that are drawn go, if no other file is named.
 const DRAWN: &'static str = "sent.txt";
 
-// Reads from the input, writes to the output, and says on the side how far it is.
-pub(crate) fn obey<'a, R: Read + Drop, W: Write, P: Write>(
+// Writes to the output, and says on the side how far it is.
+pub(crate) fn obey<'a, W: Write, P: Write>(
     rt: &HostRuntime,
     order: Order<'a>,
-    input: R,
     output: &mut W,
     progress: &mut P,
 ) -> Result<(), Stop<'a>> {
     match order {
-        Order::Rows => Ok(write_rows(output)?),
-        Order::Plan(choice) => show_plan(rt.alloc(), choice, output),
-        Order::Send { choice, settings } => send(rt, choice, settings, input, output),
-        Order::Receive { choice, settings } => {
-            receive(rt, choice, settings, input, output, progress)
-        }
-        Order::Count { sent, shown } => {
-            let sent = BufReader::new(rt.alloc(), opened(rt, sent)?)?;
-            let shown = BufReader::new(rt.alloc(), opened(rt, shown)?)?;
-            show_count(rt.alloc(), sent, shown, output)
-        }
+        Order::Rows => write_rows(output)?,
+        Order::Plan(choice) => show_plan(rt.alloc(), choice, output)?,
+        Order::Send { choice, settings } => send(rt, choice, settings, output)?,
+        Order::Receive { choice, settings } => receive(rt, choice, settings, output, progress)?,
+        Order::Count { sent, shown } => count_files(rt, sent, shown, output)?,
     }
+    Ok(())
 }
 
 fn show_plan<'a, W: Write>(heap: Global, choice: Choice, output: &mut W) -> Result<(), Stop<'a>> {
@@ -62,25 +55,24 @@ fn scrambler<'a>(rt: &HostRuntime, plan: &Plan, settings: Settings<'a>) -> Resul
 }
 
 // The file that the sent blocks are written to: the one that is named, and another one only for blocks that are drawn.
-fn copy_name<'a>(settings: Settings<'a>) -> Option<&'a str>
-    ensures { option_map (λ name. name.now) result ≡ copied settings }
-{
-    match (settings.drawing, settings.copy) {
+fn copy_name<'a>(drawing: Option<Drawing>, copy: Option<&'a str>) -> Option<&'a str> {
+    match (drawing, copy) {
         (Some(_), None) => Some(DRAWN),
         (_, copy) => copy,
     }
 }
 
-fn send<'a, R: Read + Drop, W: Write>(
+// Sends the blocks of the settings, and writes them to the copy where one is made.
+fn send<'a, W: Write>(
     rt: &HostRuntime,
     choice: Choice,
     settings: Settings<'a>,
-    input: R,
     output: &mut W,
 ) -> Result<(), Stop<'a>> {
     let plan = choice.row.plan(rt.alloc(), choice.constraint)?;
     let table = scrambler(rt, &plan, settings)?;
-    match copy_name(settings) {
+    let input = BufReader::new(rt.alloc(), rt.stdin())?;
+    match copy_name(settings.drawing, settings.copy) {
         Some(name) => {
             let file = fs::create(rt, name).map_err(|error| Stop::File { name, error })?;
             let mut copy = BufWriter::new(rt.alloc(), file)?;
@@ -133,21 +125,41 @@ fn send_all<'a, R: Read + Drop, W: Write, C: Write>(
     }
 }
 
-fn receive<'a, R: Read + Drop, W: Write, P: Write>(
+fn receive<'a, W: Write, P: Write>(
     rt: &HostRuntime,
     choice: Choice,
     settings: Settings<'a>,
-    input: R,
     output: &mut W,
     progress: &mut P,
 ) -> Result<(), Stop<'a>> {
     let plan = choice.row.plan(rt.alloc(), choice.constraint)?;
     let table = scrambler(rt, &plan, settings)?;
-    match settings.score {
-        ScoreKind::Total => receive_by(rt.alloc(), plan, table, Total, input, output, progress),
-        ScoreKind::Worst => receive_by(rt.alloc(), plan, table, Worst, input, output, progress),
+    receive_scored(
+        rt.alloc(),
+        plan,
+        table,
+        settings.score,
+        rt.stdin(),
+        output,
+        progress,
+    )
+}
+
+// Answers the lines of the input by the kind of score of this name.
+fn receive_scored<'a, R: Read + Drop, W: Write, P: Write>(
+    heap: Global,
+    plan: Plan,
+    table: Table,
+    score: ScoreKind,
+    input: R,
+    output: &mut W,
+    progress: &mut P,
+) -> Result<(), Stop<'a>> {
+    match score {
+        ScoreKind::Total => receive_by(heap, plan, table, Total, input, output, progress),
+        ScoreKind::Worst => receive_by(heap, plan, table, Worst, input, output, progress),
         ScoreKind::CountFirst => {
-            receive_by(rt.alloc(), plan, table, CountFirst, input, output, progress)
+            receive_by(heap, plan, table, CountFirst, input, output, progress)
         }
     }
 }
@@ -164,6 +176,18 @@ fn receive_by<'a, K: WrittenKind + Drop, R: Read + Drop, W: Write, P: Write>(
 ) -> Result<(), Stop<'a>> {
     let mut reception = Reception::new(heap, plan, table, kind)?;
     Ok(reception::receive(heap, &mut reception, input, output, progress)?)
+}
+
+// Writes what is counted of two files.
+fn count_files<'a, W: Write>(
+    rt: &HostRuntime,
+    sent: &'a str,
+    shown: &'a str,
+    output: &mut W,
+) -> Result<(), Stop<'a>> {
+    let sent = BufReader::new(rt.alloc(), opened(rt, sent)?)?;
+    let shown = BufReader::new(rt.alloc(), opened(rt, shown)?)?;
+    show_count(rt.alloc(), sent, shown, output)
 }
 
 // Writes what is counted of two texts.
@@ -195,18 +219,23 @@ mod tests {
         constraint: 7,
     };
 
-    // What is said to an order.
-    fn said_to<'a>(rt: &HostRuntime, order: Order<'a>, input: &[u8]) -> Result<Vec<u8>, Fail> {
-        let mut said = Vec::new(rt.alloc());
-        match obey(rt, order, input, &mut said, &mut sink()) {
-            Ok(()) => Ok(said),
-            Err(_) => Err(Fail::new("the order is not obeyed")),
+    // The plan of that row, and a table of the register's values.
+    fn made(heap: Global) -> Result<(Plan, Table), Fail> {
+        let Ok(plan) = CHOICE.row.plan(heap, CHOICE.constraint) else {
+            return Err(Fail::new("no plan"));
+        };
+        match register_table(heap, &plan) {
+            Ok(table) => Ok((plan, table)),
+            Err(_) => Err(Fail::new("no table")),
         }
     }
 
     #[test]
     fn plan_is_shown(rt: HostRuntime) -> Result<(), Fail> {
-        let said = said_to(&rt, Order::Plan(CHOICE), b"")?;
+        let mut said = Vec::new(rt.alloc());
+        if obey(&rt, Order::Plan(CHOICE), &mut said, &mut sink()).is_err() {
+            return Err(Fail::new("the order is not obeyed"));
+        }
         let expected =
             "bandwidth 3\nwaveform 1\ninterleaver 0\nconstraint 7\nrate 1/8\nq 1\nframe_length 48\nB 24\nN 192\nsymbols 192\nincrement 25\nperiod 1\nsend_list 0 1 0 1 0 1 0 1\n";
         assert_eq!(rt; said.as_slice(), expected.as_bytes());
@@ -216,33 +245,61 @@ mod tests {
     // A block on the air is a comment and 192 lines.
     #[test]
     fn block_is_sent(rt: HostRuntime) -> Result<(), Fail> {
-        let order = Order::Send {
-            choice: CHOICE,
-            settings: Settings::none(),
-        };
-        let said = said_to(&rt, order, b"000000000000000000000000\n")?;
+        let (plan, table) = made(rt.alloc())?;
+        let input = b"000000000000000000000000\n".as_slice();
+        let mut said = Vec::new(rt.alloc());
+        if send_all(
+            rt.alloc(),
+            &plan,
+            table,
+            None,
+            input,
+            &mut said,
+            &mut sink(),
+        )
+        .is_err()
+        {
+            return Err(Fail::new("nothing is sent"));
+        }
         assert!(rt; said.as_slice().starts_with(b"# block 1\n0 1\n"));
         let lines = said.as_slice().split(|byte| *byte == b'\n').count();
         assert_eq!(rt; lines, 194);
         Ok(())
     }
 
+    // Blocks that are drawn are kept in a file.
+    #[test]
+    fn drawn_blocks_are_kept(rt: HostRuntime) {
+        let drawing = Some(Drawing { blocks: 1, seed: 1 });
+        assert_eq!(rt; copy_name(drawing, None), Some("sent.txt"));
+        assert_eq!(rt; copy_name(drawing, Some("own.txt")), Some("own.txt"));
+        assert_eq!(rt; copy_name(None, None), None);
+    }
+
     // The first coded bit is sent at the locations 0, 50, 100 and 150: once as 0, and twice, with less, as 1.
     #[test]
     fn scores_are_of_the_kind(rt: HostRuntime) -> Result<(), Fail> {
-        let heard = b"note 0 5\nnote 50 -3\nnote 100 -4";
+        let heard = b"note 0 5\nnote 50 -3\nnote 100 -4".as_slice();
         for (score, shown) in [
             (ScoreKind::Total, "# score 5\n"),
             (ScoreKind::Worst, "# score 4\n"),
             (ScoreKind::CountFirst, "# score 1 5\n"),
         ] {
-            let mut settings = Settings::none();
-            settings.score = score;
-            let order = Order::Receive {
-                choice: CHOICE,
-                settings,
-            };
-            let said = said_to(&rt, order, heard)?;
+            let (plan, table) = made(rt.alloc())?;
+            let mut said = Vec::new(rt.alloc());
+            if receive_scored(
+                rt.alloc(),
+                plan,
+                table,
+                score,
+                heard,
+                &mut said,
+                &mut sink(),
+            )
+            .is_err()
+            {
+                return Err(Fail::new("nothing is shown"));
+            }
             assert!(rt; said.as_slice().starts_with(shown.as_bytes()));
         }
         Ok(())

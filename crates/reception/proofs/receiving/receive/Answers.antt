@@ -20,10 +20,10 @@ returns g c =
     let wholly = given y.values.items y.block.items y.scores.items y.marks.items in
     let seen = view_of g.S.Scrambler.meaning y.receiver in
     on_ok c.show_last.result ((text : List ℕ) × Last (scale y.kind) written seen wholly y.values.items text × Appends (g.W.Write.contents c.answer_all.new.output) (g.W.Write.contents c.show_last.new.output) text) _ (λ b.
-        let by_kind = subst (λ q. Last (scale q) written seen wholly y.values.items b.0) e.kind b.1 in
-        let by_view = subst (λ q. Last (scale x.kind) written q wholly y.values.items b.0) e.kept by_kind in
-        let by_lengths = subst (λ q. Last (scale x.kind) written v q y.values.items b.0) e.lengths by_view in (
-          a.1 ++ b.0,
-          record { lines = a.0; left = y.values.items; body = a.1; end = b.0; every = λ bytes f. a.4 bytes (begun ∙ f); received = a.2; shown = by_lengths; all = refl },
-          appends_both _ _ _ a.1 b.0 a.3 b.2,
-        )) c.show_last.ensures
+    let by_kind = subst (λ q. Last (scale q) written seen wholly y.values.items b.0) e.kind b.1 in
+    let by_view = subst (λ q. Last (scale x.kind) written q wholly y.values.items b.0) e.kept by_kind in
+    let by_lengths = subst (λ q. Last (scale x.kind) written v q y.values.items b.0) e.lengths by_view in (
+      a.1 ++ b.0,
+      record { lines = a.0; left = y.values.items; body = a.1; end = b.0; every = λ bytes f. a.4 bytes (begun ∙ f); received = a.2; shown = by_lengths; all = refl },
+      appends_both _ _ _ a.1 b.0 a.3 b.2,
+    )) c.show_last.ensures
