@@ -18,8 +18,8 @@ LONG_BLOCK = 10000
 
 A_ROW = b"a row takes four numbers: bandwidth, waveform, interleaver, constraint length"
 USAGE = b"usage: chain rows\n"
-# what is said of words that are no UTF-8, before they come to chain
-NO_TEXT = b"Error: Kind(InvalidData)"
+# what is said of words that are no UTF-8
+NO_TEXT = b"invalid data"
 
 
 class TooLong(Exception):
@@ -390,8 +390,7 @@ class Chain:
     def says(self):
         """What goes to standard error: a message, and how the usage begins behind it; or that looks of a long block begin."""
         if self.stop is not None:
-            named = b"" if self.stop.message == NO_TEXT else b"chain: "
-            return named + self.stop.message + b"\n", USAGE * self.stop.usage
+            return b"chain: " + self.stop.message + b"\n", USAGE * self.stop.usage
         if self.reception is None or self.reception.receiver.plan[3] < LONG_BLOCK:
             return b"", b""
         return b"looking for the best block of %d bits\n" % self.reception.receiver.plan[3] * self.reception.looks, b""
