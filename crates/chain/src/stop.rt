@@ -79,7 +79,7 @@ mod tests {
         );
         let words = Stop::from(Slip::Files).to_string(rt.alloc())?;
         assert!(rt; words.as_str().starts_with("count takes two files\n"));
-        assert!(rt; words.as_str().ends_with(USAGE));
+        assert!(rt; words.as_str().ends_with(usage()));
         let error = io::Error::from(io::ErrorKind::NotFound);
         let file = Stop::File {
             name: "air.txt",

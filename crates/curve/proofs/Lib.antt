@@ -1,2 +1,5 @@
+mod Counted
+mod Tried
+mod Turns
 pub mod Requests
 pub mod Plotted

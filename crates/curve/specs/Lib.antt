@@ -1,10 +1,9 @@
 pub mod Calls
-pub mod Dots
-pub mod Trials
-pub mod Usual
-pub mod Sentences
-pub mod Words
+pub mod Captions
 pub mod Checksum
 pub mod Dots
-pub mod Captions
 pub mod Plots
+pub mod Sentences
+pub mod Trials
+pub mod Usual
+pub mod Words

@@ -1,6 +1,6 @@
 // The dots of a curve: what is counted at each ratio.
-ghost use Rattle.std.specs.Prelude.{◌≡◌};
-ghost use Rattle.curve.specs.Dots.{rate_of};
+ghost use Rattle.std.specs.Prelude.{◌≡◌, IfOk};
+ghost use Rattle.curve.specs.Dots.{with_trial, rate_of, IsDot, IsCurve};
 
 use crate::choice::Run;
 use crate::trial::{Trial, run_trial};
