@@ -1,24 +1,36 @@
 -- Lines that are answered one after the other, and what a writer then holds.
 -- Assumes nothing.
-use Rattle.std.proofs.Common.{◌≡◌, ℕ, suc, ◌+◌, List, [], ◌∷◌, ◌++◌, length, ℤ, Some, None, Ok, Err, Option, Result, sym, refl, ap, ◌∙◌, subst, append_assoc, arith}
+use Rattle.std.proofs.Common.{◌≡◌, ℕ, suc, ◌+◌, List, [], ◌∷◌, ◌++◌, length, ℤ, Some, None, Ok, Err, Option, Result, inl, inr, sym, refl, ap, ◌∙◌, subst, append_assoc, arith}
 use Rattle.std.proofs.lemmas.List.{append-nil}
 use Rattle.std.specs.Result.{OnOk}
-use Rattle.std.specs.Io.KnownBytes.{Appends, Keeps}
+use Rattle.entries.specs.Readings.{LineReading}
+use Rattle.entries.specs.declared.entry.Entry.{Entry}
+use Rattle.entries.specs.declared.entry.Entry.TheVariants.{Look}
+use Rattle.entries.proofs.Single.{one_entry, no_idle_entry}
+use Rattle.lines.specs.declared.fault.LineFault.{LineFault}
 use Rattle.receiver.specs.Views.{View}
 use Rattle.score.specs.Scale.{Scale}
 use Rattle.search.specs.Looking.{Lengths}
-use Rattle.reception.specs.Receiving.{Replied, Received}
+use Rattle.reception.specs.Receiving.{announcement, Begins, Announced, Replied, Received}
 use Rattle.reception.specs.declared.written.ScoreText.{ScoreText}
-
-pub then_keeps : (a b c : Option (List ℕ)) (x : List ℕ) → Appends a b x → Keeps b c → Appends a c x
-then_keeps None b c x h k = tt
-then_keeps (Some xs) None c x h k = absurd h
-then_keeps (Some xs) (Some ys) None x h k = absurd k
-then_keeps (Some xs) (Some ys) (Some zs) x h k = k ∙ h
 
 pub always : {X E : Type 0} (r : Result X E) (Q : Type 0) → Q → OnOk r Q
 always (Ok x) Q h = h
 always (Err e) Q h = tt
+
+-- what is said before a line, by what it was read as
+pub begins_look : (bits : ℕ) (line : List ℕ) (said : Result (Option Entry) LineFault) → LineReading line said → said ≡ Ok (Some Look) → Begins bits line (announcement bits)
+begins_look bits line said reads is = inl (subst (LineReading line) is reads, refl)
+
+pub begins_none : (bits : ℕ) (line : List ℕ) (said : Result (Option Entry) LineFault) → LineReading line said → (said ≡ Ok (Some Look) → ⊥) → Begins bits line []
+begins_none bits line (Ok (Some e)) reads other = inr (λ w. other (ap (λ d. Ok (Some d)) (one_entry line e Look reads w)), refl)
+begins_none bits line (Ok None) reads other = inr (λ w. no_idle_entry line Look w reads, refl)
+begins_none bits line (Err fault) reads other = inr (reads.1 Look, refl)
+
+-- one line more, and what is said before it
+pub announced_more : (bits : ℕ) (lines : List (List ℕ)) (line aside more : List ℕ) → Announced bits lines aside → Begins bits line more → Announced bits (lines ++ (line ∷ [])) (aside ++ more)
+announced_more bits [] line aside more h b = (more, [], b, refl, (λ i. h i ++ more) ∙ sym (append-nil more))
+announced_more bits (first ∷ lines) line aside more h b = (h.0, h.1 ++ more, h.2, announced_more bits lines line h.1 more h.3 b, (λ i. h.4 i ++ more) ∙ append_assoc h.0 h.1 more)
 
 module _ {S : Type 0} (k : Scale S) (written : S → ScoreText) (v : View) (whole : Lengths) where
   -- one line more

@@ -1,13 +1,12 @@
 -- Taking an entry, by what the call behind it answered.
 -- Assumes nothing.
-use Rattle.std.proofs.Common.{◌≡◌, ℕ, ◌<◌, ◌≤◌, min, Bool, true, false, cond, eqb, List, [], ◌∷◌, ◌++◌, length, get_or, take, drop, ℤ, is_ok, IfOk, Some, None, Ok, Err, Option, Result, sym, refl, ap, ◌∙◌, subst, arith}
+use Rattle.std.proofs.Common.{◌≡◌, ℕ, min, Bool, true, false, cond, eqb, List, [], ◌∷◌, ◌++◌, length, get_or, take, ℤ, is_ok, IfOk, Ok, Option, Result, sym, refl, ap, ◌∙◌, arith}
 use Rattle.std.proofs.lemmas.List.{take_all, drop_all, append-nil}
 use Rattle.code.specs.Numbers.{bits_of, digit}
 use Rattle.entries.specs.declared.entry.Entry.{Entry}
-use Rattle.entries.specs.declared.entry.Entry.TheVariants.{Hear, Note, Blank, Look}
 use Rattle.plan.specs.Faults.{chain_number, outcome}
 use Rattle.plan.specs.Questions.{plan_answer}
-use Rattle.plan.specs.Scheme.{Scheme, sent_length}
+use Rattle.plan.specs.Scheme.{sent_length}
 use Rattle.plan.specs.declared.fault.ChainFault.{ChainFault}
 use Rattle.plan.proofs.Facts.{Facts}
 use Rattle.receiver.specs.Calls.{view_fits}

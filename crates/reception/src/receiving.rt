@@ -1,18 +1,20 @@
 // Answering a stream of lines, one line in memory at a time.
-ghost use Rattle.std.specs.Prelude.{◌≡◌, ℕ, ◌-◌, ◌^◌, List, take, Some, OnOk};
+ghost use Rattle.std.specs.Prelude.{◌≡◌, ℕ, ◌-◌, ◌^◌, ◌↔◌, IsTrue, List, take, Some, Ok, OnOk};
 ghost use Rattle.std.specs.Io.KnownBytes.{Appends};
+ghost use Rattle.entries.specs.Readings.{LineReading};
+ghost use Rattle.entries.specs.declared.entry.Entry.TheVariants.{Look};
 ghost use Rattle.lines.specs.Inputs.{kept_of};
 ghost use Rattle.lines.specs.Streams.{lines_of, left};
 ghost use Rattle.receiver.specs.Receivers.{view_of};
 ghost use Rattle.replay.specs.Given.{given};
-ghost use Rattle.reception.specs.Receiving.{announcement, Replied, Received, Last, ReceivedAll};
+ghost use Rattle.reception.specs.Receiving.{announcement, Begins, Announced, Replied, Received, Last, ReceivedAll};
 ghost use Rattle.reception.specs.Written.{shown_text};
 
 use crate::reception::Reception;
 use crate::shown::Shown;
 use crate::written::WrittenKind;
 use entries::{Entry, Refusal, read_line};
-use lines::{Line, Lines};
+use lines::{Line, LineFault, Lines};
 use scrambler::Scrambler;
 use std::alloc::Global;
 use std::io;
@@ -31,9 +33,11 @@ fn announce<P: Write>(bits: usize, progress: &mut P) -> io::Result<()>
     Ok(())
 }
 
-// Whether a line asks for a look.
-fn is_look(line: &Line) -> bool {
-    matches!(read_line(line), Ok(Some(Entry::Look)))
+// Whether a line asks for a look, by what it says.
+fn is_look(said: Result<Option<Entry>, LineFault>) -> bool
+    ensures { IsTrue result ↔ (said ≡ Ok (Some Look)) }
+{
+    matches!(said, Ok(Some(Entry::Look)))
 }
 
 // Writes the block that was shown, and its score, and holds nothing back.
@@ -51,19 +55,19 @@ fn write_shown<S: Scrambler + Drop, K: WrittenKind + Drop, W: Write>(
     output.flush()
 }
 
-// Answers the line with this number.
-fn answer<S: Scrambler + Drop, K: WrittenKind + Drop, W: Write>(
+// Writes the answer to what the line with this number says.
+fn reply<S: Scrambler + Drop, K: WrittenKind + Drop, W: Write>(
     reception: &mut Reception<S, K>,
-    line: &Line,
+    said: Result<Option<Entry>, LineFault>,
     number: u64,
     output: &mut W,
 ) -> io::Result<()>
-    ensures replied { (whole : List ℕ) → line.now.kept.items ≡ kept_of whole → let v = view_of S.meaning reception.old.receiver in let w = given reception.old.values.items reception.old.block.items reception.old.scores.items reception.old.marks.items in let k = K.Kind.scale reception.old.kind in OnOk result ((text : List ℕ) × Replied k K.written v w number whole reception.old.values.items reception.new.values.items text × Appends (W.contents output.old) (W.contents output.new) text) }
+    ensures replied { (whole : List ℕ) → LineReading whole said → let v = view_of S.meaning reception.old.receiver in let w = given reception.old.values.items reception.old.block.items reception.old.scores.items reception.old.marks.items in let k = K.Kind.scale reception.old.kind in OnOk result ((text : List ℕ) × Replied k K.written v w number whole reception.old.values.items reception.new.values.items text × Appends (W.contents output.old) (W.contents output.new) text) }
     ensures kept { view_of S.meaning reception.new.receiver ≡ view_of S.meaning reception.old.receiver }
     ensures kind { reception.new.kind ≡ reception.old.kind }
     ensures lengths { given reception.new.values.items reception.new.block.items reception.new.scores.items reception.new.marks.items ≡ given reception.old.values.items reception.old.block.items reception.old.scores.items reception.old.marks.items }
 {
-    match reception.answer(line) {
+    match reception.answer(said) {
         Ok(None) => Ok(()),
         Ok(Some(score)) => write_shown(reception, score, output),
         Err(fault) => {
@@ -74,6 +78,27 @@ fn answer<S: Scrambler + Drop, K: WrittenKind + Drop, W: Write>(
             write!(output, "{refusal}")
         }
     }
+}
+
+// Answers the line with this number. Before a look nothing is held back, and it is announced.
+fn answer<S: Scrambler + Drop, K: WrittenKind + Drop, W: Write, P: Write>(
+    reception: &mut Reception<S, K>,
+    line: &Line,
+    number: u64,
+    output: &mut W,
+    progress: &mut P,
+) -> io::Result<()>
+    ensures replied { (whole : List ℕ) → line.now.kept.items ≡ kept_of whole → let v = view_of S.meaning reception.old.receiver in let w = given reception.old.values.items reception.old.block.items reception.old.scores.items reception.old.marks.items in let k = K.Kind.scale reception.old.kind in OnOk result ((text : List ℕ) × (aside : List ℕ) × Replied k K.written v w number whole reception.old.values.items reception.new.values.items text × Begins v.scheme.block whole aside × Appends (W.contents output.old) (W.contents output.new) text × Appends (P.contents progress.old) (P.contents progress.new) aside) }
+    ensures kept { view_of S.meaning reception.new.receiver ≡ view_of S.meaning reception.old.receiver }
+    ensures kind { reception.new.kind ≡ reception.old.kind }
+    ensures lengths { given reception.new.values.items reception.new.block.items reception.new.scores.items reception.new.marks.items ≡ given reception.old.values.items reception.old.block.items reception.old.scores.items reception.old.marks.items }
+{
+    let said = read_line(line);
+    if is_look(said) {
+        output.flush()?;
+        announce(reception.block().len(), progress)?;
+    }
+    reply(reception, said, number, output)
 }
 
 // Shows the best block after the last line.
@@ -94,7 +119,8 @@ fn answer_all<S: Scrambler + Drop, K: WrittenKind + Drop, R: Read + Drop, W: Wri
     output: &mut W,
     progress: &mut P,
 ) -> io::Result<()>
-    ensures received { let v = view_of S.meaning reception.old.receiver in let w = given reception.old.values.items reception.old.block.items reception.old.scores.items reception.old.marks.items in let k = K.Kind.scale reception.old.kind in OnOk result ((each : List (List ℕ)) × (text : List ℕ) × Received k K.written v w 1 each reception.old.values.items reception.new.values.items text × Appends (W.contents output.old) (W.contents output.new) text
+    ensures received { let v = view_of S.meaning reception.old.receiver in let w = given reception.old.values.items reception.old.block.items reception.old.scores.items reception.old.marks.items in let k = K.Kind.scale reception.old.kind in OnOk result ((each : List (List ℕ)) × (text : List ℕ) × (aside : List ℕ) × Received k K.written v w 1 each reception.old.values.items reception.new.values.items text × Announced v.scheme.block each aside
+        × Appends (W.contents output.old) (W.contents output.new) text × Appends (P.contents progress.old) (P.contents progress.new) aside
         × ((input : List ℕ) → left R.remaining lines.old ≡ Some input → each ≡ take (2 ^ 64 - 1) (lines_of input))) }
     ensures kept { view_of S.meaning reception.new.receiver ≡ view_of S.meaning reception.old.receiver }
     ensures kind { reception.new.kind ≡ reception.old.kind }
@@ -104,12 +130,7 @@ fn answer_all<S: Scrambler + Drop, K: WrittenKind + Drop, R: Read + Drop, W: Wri
         if !lines.advance()? {
             return Ok(());
         }
-        let line = lines.line();
-        if is_look(line) {
-            output.flush()?;
-            announce(reception.block().len(), progress)?;
-        }
-        answer(reception, line, number + 1, output)?;
+        answer(reception, lines.line(), number + 1, output, progress)?;
     }
     Ok(())
 }
@@ -122,7 +143,7 @@ pub fn receive<S: Scrambler + Drop, K: WrittenKind + Drop, R: Read + Drop, W: Wr
     output: &mut W,
     progress: &mut P,
 ) -> io::Result<()>
-    ensures { let v = view_of S.meaning reception.old.receiver in let w = given reception.old.values.items reception.old.block.items reception.old.scores.items reception.old.marks.items in let k = K.Kind.scale reception.old.kind in OnOk result ((text : List ℕ) × ReceivedAll k K.written v w (R.remaining input) reception.old.values.items text × Appends (W.contents output.old) (W.contents output.new) text) }
+    ensures { let v = view_of S.meaning reception.old.receiver in let w = given reception.old.values.items reception.old.block.items reception.old.scores.items reception.old.marks.items in let k = K.Kind.scale reception.old.kind in OnOk result ((text : List ℕ) × (aside : List ℕ) × ReceivedAll k K.written v w (R.remaining input) reception.old.values.items text aside × Appends (W.contents output.old) (W.contents output.new) text × Appends (P.contents progress.old) (P.contents progress.new) aside) }
 {
     let reader = BufReader::new(heap, input)?;
     let mut lines = Lines::new(heap, reader);

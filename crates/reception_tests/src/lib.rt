@@ -8,6 +8,7 @@ use score::Total;
 use scrambler::Table;
 use std::alloc::Global;
 use std::io;
+use std::io::BufWriter;
 
 // What is written to these lines.
 fn replies<K: WrittenKind + Drop>(
@@ -62,6 +63,26 @@ fn said_aside(heap: Global, bits: usize, progress: &mut Vec<u8>) -> io::Result<(
     receive(heap, &mut reception, text, &mut io::sink(), progress)
 }
 
+// What is behind the buffer where this text is received by a reception of so many bits, and its looks are announced to a full writer.
+fn behind_the_buffer(
+    heap: Global,
+    bits: usize,
+    text: &str,
+    output: &mut BufWriter<Vec<u8>>,
+) -> io::Result<()> {
+    let Ok(mut reception) = long_reception(heap, bits) else {
+        return Ok(());
+    };
+    let mut full = [0; 0];
+    receive(
+        heap,
+        &mut reception,
+        text.as_bytes(),
+        output,
+        &mut full.as_mut_slice(),
+    )
+}
+
 #[cfg(test)]
 mod tests {
     use super::*;
@@ -108,6 +129,27 @@ mod tests {
         let line = "looking for the best block of 10000 bits\n";
         assert_eq!(rt; said.len(), 3 * line.len());
         assert!(rt; said.as_slice().starts_with(line.as_bytes()));
+        Ok(())
+    }
+
+    // A block that was shown waits for no other line.
+    #[test]
+    fn a_block_is_not_held_back(rt: HostRuntime) -> Result<(), Fail> {
+        let mut output = BufWriter::new(rt.alloc(), Vec::new(rt.alloc()))?;
+        behind_the_buffer(rt.alloc(), 9, "", &mut output)?;
+        let expected = "# score 0\n000000000\n";
+        assert_eq!(rt; output.get_ref().as_slice(), expected.as_bytes());
+        Ok(())
+    }
+
+    // What is written before a look does not wait for its end: here the look is not even begun, since nobody takes what is said before it.
+    #[test]
+    fn a_refusal_is_not_held_back(rt: HostRuntime) -> Result<(), Fail> {
+        let mut output = BufWriter::new(rt.alloc(), Vec::new(rt.alloc()))?;
+        let done = behind_the_buffer(rt.alloc(), 10_000, "blank 20000\nlook", &mut output);
+        assert!(rt; done.is_err());
+        let expected = "# refused 14 line 1: Is the symbol place below N / q?\n";
+        assert_eq!(rt; output.get_ref().as_slice(), expected.as_bytes());
         Ok(())
     }
 }

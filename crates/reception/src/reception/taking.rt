@@ -1,6 +1,6 @@
 // How a reception is made, and how it takes an entry.
 ghost use Rattle.std.specs.Prelude.{◌≡◌, ◌≢◌, ℕ, List, [], IfOk};
-ghost use Rattle.lines.specs.Inputs.{kept_of};
+ghost use Rattle.entries.specs.Readings.{LineReading};
 ghost use Rattle.plan.specs.Faults.{chain_number, outcome};
 ghost use Rattle.plan.specs.Plans.{plan_scheme};
 ghost use Rattle.plan.specs.Scheme.{sent_length};
@@ -14,8 +14,8 @@ ghost use Rattle.reception.specs.Taking.{Takes, Shows};
 use crate::carrying::carry_out;
 use crate::reception::Reception;
 use crate::written::{ScoreText, WrittenKind};
-use entries::{Entry, read_line};
-use lines::{Line, LineFault};
+use entries::Entry;
+use lines::LineFault;
 use plan::{ChainFault, Plan};
 use receiver::Receiver;
 use score::Kind;
@@ -33,6 +33,7 @@ impl<S: Scrambler + Drop, K: Kind + Drop> Reception<S, K> {
     ) -> Result<Reception<S, K>, ChainFault>
         ensures answer { outcome chain_number result ≢ 255 → outcome chain_number result ≡ making_answer (view plan (S.meaning scrambler)) (sent_length (plan_scheme plan)) }
         ensures made { IfOk result (λ x. view_of S.meaning x.receiver ≡ view plan (S.meaning scrambler)) }
+        ensures kind { IfOk result (λ x. x.kind ≡ kind) }
         ensures zeros { IfOk result (λ x. x.values.items ≡ ledger (view_of S.meaning x.receiver) (given x.values.items x.block.items x.scores.items x.marks.items) []) }
     {
         let trellis = Trellis::of(&plan);
@@ -88,14 +89,17 @@ impl<S: Scrambler + Drop, K: Kind + Drop> Reception<S, K> {
         shown.unwrap().unwrap()
     }
 
-    // Answers a line: takes its entry, where it has one. What is kept of a line is answered as the whole line.
-    pub fn answer(&mut self, line: &Line) -> Result<Option<K::Score>, LineFault>
-        ensures answers { (whole : List ℕ) → line.now.kept.items ≡ kept_of whole → let v = view_of S.meaning self.old.receiver in let w = given self.old.values.items self.old.block.items self.old.scores.items self.old.marks.items in Answers (K.Kind.scale self.old.kind) v w self.old.values.items whole result self.new.values.items self.new.block.items }
+    // Answers what a line says: takes its entry, where it has one.
+    pub fn answer(
+        &mut self,
+        said: Result<Option<Entry>, LineFault>,
+    ) -> Result<Option<K::Score>, LineFault>
+        ensures answers { (whole : List ℕ) → LineReading whole said → let v = view_of S.meaning self.old.receiver in let w = given self.old.values.items self.old.block.items self.old.scores.items self.old.marks.items in Answers (K.Kind.scale self.old.kind) v w self.old.values.items whole result self.new.values.items self.new.block.items }
         ensures kept { view_of S.meaning self.new.receiver ≡ view_of S.meaning self.old.receiver }
         ensures kind { self.new.kind ≡ self.old.kind }
         ensures lengths { given self.new.values.items self.new.block.items self.new.scores.items self.new.marks.items ≡ given self.old.values.items self.old.block.items self.old.scores.items self.old.marks.items }
     {
-        match read_line(line)? {
+        match said? {
             Some(entry) => Ok(self.take(entry)?),
             None => Ok(None),
         }

@@ -1,5 +1,5 @@
-use Rattle.std.proofs.Common.{◌≡◌, min, cond, length, is_ok, sym, refl, ap, ◌∙◌, rules, arith, w16, to_z, of_z}
-use Rattle.entries.specs.declared.entry.Entry.TheVariants.{Hear, Note, Blank, Look}
+use Rattle.std.proofs.Common.{◌≡◌, min, cond, length, is_ok, ap, ◌∙◌, rules, arith, w16, to_z, of_z}
+use Rattle.entries.specs.declared.entry.Entry.TheVariants.{Hear, Note, Blank}
 use Rattle.plan.proofs.Facts.{facts}
 use Rattle.receiver.specs.Calls.{hear_answer, note_answer, blank_answer}
 use Rattle.receiver.specs.Receivers.{view_of}

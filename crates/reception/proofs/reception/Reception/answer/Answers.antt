@@ -5,22 +5,22 @@ use Rattle.reception.specs.Answering.{carried}
 use Rattle.reception.proofs.reception.Reception.answer.Goals as goal
 
 pub returns-in_err-take-in-Some-clause-answers : goal.returns-in_err-take-in-Some-clause-answers
-returns-in_err-take-in-Some-clause-answers g c whole kept =
+returns-in_err-take-in-Some-clause-answers g c whole reads =
     let p = err_from_is_err_and c.from_residual-in_err-take-in-Some.result c.from_residual-in_err-take-in-Some.ensures.1 in
     inl (
       c.in-Some.entry,
-      subst (λ o. LineReading whole (Ok o)) c.in-Some.is (c.in_ok-entry.ensures whole kept),
+      subst (LineReading whole) (c.in_ok-entry.was ∙ ap Ok c.in-Some.is) reads,
       (c.take.result, c.take.ensures.takes, p.1 ∙ ap Err p.2 ∙ sym (ap carried c.in_err-take-in-Some.was)),
     )
 
 pub returns-in_ok-take-in-Some-clause-answers : goal.returns-in_ok-take-in-Some-clause-answers
-returns-in_ok-take-in-Some-clause-answers g c whole kept =
+returns-in_ok-take-in-Some-clause-answers g c whole reads =
     inl (
       c.in-Some.entry,
-      subst (λ o. LineReading whole (Ok o)) c.in-Some.is (c.in_ok-entry.ensures whole kept),
+      subst (LineReading whole) (c.in_ok-entry.was ∙ ap Ok c.in-Some.is) reads,
       (c.take.result, c.take.ensures.takes, sym (ap carried c.in_ok-take-in-Some.was)),
     )
 
 pub returns-in-None-clause-answers : goal.returns-in-None-clause-answers
-returns-in-None-clause-answers g c whole kept =
-    inr (inl (subst (λ o. LineReading whole (Ok o)) c.in-None.is (c.in_ok-entry.ensures whole kept), refl, refl))
+returns-in-None-clause-answers g c whole reads =
+    inr (inl (subst (LineReading whole) (c.in_ok-entry.was ∙ ap Ok c.in-None.is) reads, refl, refl))
