@@ -1,2 +1,3 @@
 pub mod Obeying
+pub mod Copies
 pub mod Texts

@@ -35,6 +35,6 @@ fn words_of(rt: &HostRuntime) -> io::Result<Vec<String>> {
 fn run<'a>(rt: &HostRuntime, words: &'a [String]) -> Result<(), Stop<'a>> {
     let order = order_of(words)?;
     let mut output = BufWriter::new(rt.alloc(), writer(rt))?;
-    obey(rt, order, &mut output, &mut rt.stderr())?;
+    obey(rt, order, rt.stdin(), &mut output, &mut rt.stderr())?;
     Ok(output.flush()?)
 }

@@ -1,8 +1,16 @@
 // What each order does with the files and the streams.
-ghost use Rattle.std.specs.Prelude.{◌≡◌, OnOk};
+ghost use Rattle.std.specs.Prelude.{ℕ, List, Option, OnOk, IfOk};
+ghost use Rattle.std.specs.Io.KnownBytes.{Appends};
+ghost use Rattle.comparison.specs.Report.{report};
+ghost use Rattle.comparison.specs.declared.comparison.Comparison.{Comparison as Counts};
+ghost use Rattle.laboratory.specs.Listing.{plan_text};
+ghost use Rattle.orders.specs.declared.order.Order.TheVariants.{Send as SendOrder, Receive as ReceiveOrder};
 ghost use Rattle.plan.specs.Plans.{plan_scheme};
+ghost use Rattle.plan.specs.Scheme.{Scheme};
+ghost use Rattle.receiver.specs.Receivers.{view};
 ghost use Rattle.scrambler.specs.Meanings.{table_meaning};
-ghost use Rattle.chain.specs.Obeying.{Sent, Counted};
+ghost use Rattle.chain.specs.Obeying.{Chosen, Scrambles, Settled, Sent, OnAir, Answered, Received, Counted, Obeyed};
+ghost use Rattle.chain.specs.Copies.{CopyIs};
 
 use crate::stop::Stop;
 use laboratory::{count, register_table, send_drawn, send_text, table_of, write_plan, write_rows};
@@ -19,24 +27,40 @@ use std::io::{BufReader, BufWriter, Read, Write, sink};
 // Where the blocks that are drawn go, if no other file is named.
 const DRAWN: &'static str = "sent.txt";
 
-// Writes to the output, and says on the side how far it is.
-pub(crate) fn obey<'a, W: Write, P: Write>(
+// Writes to the output, and says on the side how far it is. Only orders to send and to receive read the input.
+pub(crate) fn obey<'a, R: Read + Drop, W: Write, P: Write>(
     rt: &HostRuntime,
     order: Order<'a>,
+    input: R,
     output: &mut W,
     progress: &mut P,
-) -> Result<(), Stop<'a>> {
+) -> Result<(), Stop<'a>>
+    ensures { OnOk result (Obeyed order.entry (R.remaining input) (W.contents output.old) (W.contents output.new) (P.contents progress.old) (P.contents progress.new)) }
+{
     match order {
-        Order::Rows => write_rows(output)?,
-        Order::Plan(choice) => show_plan(rt.alloc(), choice, output)?,
-        Order::Send { choice, settings } => send(rt, choice, settings, output)?,
-        Order::Receive { choice, settings } => receive(rt, choice, settings, output, progress)?,
-        Order::Count { sent, shown } => count_files(rt, sent, shown, output)?,
+        Order::Rows => {
+            drop(input);
+            write_rows(output)?
+        }
+        Order::Plan(choice) => {
+            drop(input);
+            show_plan(rt.alloc(), choice, output)?
+        }
+        Order::Send { choice, settings } => send(rt, choice, settings, input, output)?,
+        Order::Receive { choice, settings } => {
+            receive(rt, choice, settings, input, output, progress)?
+        }
+        Order::Count { sent, shown } => {
+            drop(input);
+            count_files(rt, sent, shown, output)?
+        }
     }
     Ok(())
 }
 
-fn show_plan<'a, W: Write>(heap: Global, choice: Choice, output: &mut W) -> Result<(), Stop<'a>> {
+fn show_plan<'a, W: Write>(heap: Global, choice: Choice, output: &mut W) -> Result<(), Stop<'a>>
+    ensures { OnOk result ((s : Scheme) × Chosen choice s × Appends (W.contents output.old) (W.contents output.new) (plan_text choice.row s)) }
+{
     let plan = choice.row.plan(heap, choice.constraint)?;
     Ok(write_plan(output, choice.row, &plan)?)
 }
@@ -47,15 +71,33 @@ fn opened<'a>(rt: &HostRuntime, name: &'a str) -> Result<File, Stop<'a>> {
 }
 
 // The scrambler of the settings: that of a file, or the register.
-fn scrambler<'a>(rt: &HostRuntime, plan: &Plan, settings: Settings<'a>) -> Result<Table, Stop<'a>> {
+fn settled<'a>(rt: &HostRuntime, plan: &Plan, settings: Settings<'a>) -> Result<Table, Stop<'a>>
+    ensures { IfOk result (λ t. Settled (plan_scheme plan.now) settings.entry.table (table_meaning t)) }
+{
     match settings.table {
-        Some(name) => Ok(table_of(rt.alloc(), plan, opened(rt, name)?)?),
-        None => Ok(register_table(rt.alloc(), plan)?),
+        Some(name) => scrambler(rt.alloc(), plan, Some(opened(rt, name)?)),
+        None => scrambler(rt.alloc(), plan, None::<File>),
+    }
+}
+
+// The scrambler that a text says, or the register where there is none.
+fn scrambler<'a, R: Read + Drop>(
+    heap: Global,
+    plan: &Plan,
+    text: Option<R>,
+) -> Result<Table, Stop<'a>>
+    ensures { IfOk result (λ t. Scrambles R.remaining (plan_scheme plan.now) text t) }
+{
+    match text {
+        Some(text) => Ok(table_of(heap, plan, text)?),
+        None => Ok(register_table(heap, plan)?),
     }
 }
 
 // The file that the sent blocks are written to: the one that is named, and another one only for blocks that are drawn.
-fn copy_name<'a>(drawing: Option<Drawing>, copy: Option<&'a str>) -> Option<&'a str> {
+fn copy_name<'a>(drawing: Option<Drawing>, copy: Option<&'a str>) -> Option<&'a str>
+    ensures { CopyIs drawing copy.entry result }
+{
     match (drawing, copy) {
         (Some(_), None) => Some(DRAWN),
         (_, copy) => copy,
@@ -63,15 +105,18 @@ fn copy_name<'a>(drawing: Option<Drawing>, copy: Option<&'a str>) -> Option<&'a 
 }
 
 // Sends the blocks of the settings, and writes them to the copy where one is made.
-fn send<'a, W: Write>(
+fn send<'a, R: Read + Drop, W: Write>(
     rt: &HostRuntime,
     choice: Choice,
     settings: Settings<'a>,
+    input: R,
     output: &mut W,
-) -> Result<(), Stop<'a>> {
+) -> Result<(), Stop<'a>>
+    ensures { (y : Option (List ℕ)) → (z : Option (List ℕ)) → OnOk result (Obeyed (SendOrder choice settings.entry) (R.remaining input) (W.contents output.old) (W.contents output.new) y z) }
+{
     let plan = choice.row.plan(rt.alloc(), choice.constraint)?;
-    let table = scrambler(rt, &plan, settings)?;
-    let input = BufReader::new(rt.alloc(), rt.stdin())?;
+    let table = settled(rt, &plan, settings)?;
+    let input = BufReader::new(rt.alloc(), input)?;
     match copy_name(settings.drawing, settings.copy) {
         Some(name) => {
             let file = fs::create(rt, name).map_err(|error| Stop::File { name, error })?;
@@ -109,7 +154,8 @@ fn send_all<'a, R: Read + Drop, W: Write, C: Write>(
     output: &mut W,
     copy: &mut C,
 ) -> Result<(), Stop<'a>>
-    ensures { OnOk result (Sent (plan_scheme plan.now) (table_meaning table) drawing (R.remaining input) (W.contents output.old) (W.contents output.new) (C.contents copy.old) (C.contents copy.new)) }
+    ensures air { OnOk result (OnAir (plan_scheme plan.now) (table_meaning table) drawing (R.remaining input) (W.contents output.old) (W.contents output.new)) }
+    ensures sent { OnOk result (Sent (plan_scheme plan.now) (table_meaning table) drawing (R.remaining input) (W.contents output.old) (W.contents output.new) (C.contents copy.old) (C.contents copy.new)) }
 {
     match drawing {
         Some(drawing) => Ok(send_drawn(
@@ -125,21 +171,24 @@ fn send_all<'a, R: Read + Drop, W: Write, C: Write>(
     }
 }
 
-fn receive<'a, W: Write, P: Write>(
+fn receive<'a, R: Read + Drop, W: Write, P: Write>(
     rt: &HostRuntime,
     choice: Choice,
     settings: Settings<'a>,
+    input: R,
     output: &mut W,
     progress: &mut P,
-) -> Result<(), Stop<'a>> {
+) -> Result<(), Stop<'a>>
+    ensures { OnOk result (Obeyed (ReceiveOrder choice settings.entry) (R.remaining input) (W.contents output.old) (W.contents output.new) (P.contents progress.old) (P.contents progress.new)) }
+{
     let plan = choice.row.plan(rt.alloc(), choice.constraint)?;
-    let table = scrambler(rt, &plan, settings)?;
+    let table = settled(rt, &plan, settings)?;
     receive_scored(
         rt.alloc(),
         plan,
         table,
         settings.score,
-        rt.stdin(),
+        input,
         output,
         progress,
     )
@@ -154,7 +203,9 @@ fn receive_scored<'a, R: Read + Drop, W: Write, P: Write>(
     input: R,
     output: &mut W,
     progress: &mut P,
-) -> Result<(), Stop<'a>> {
+) -> Result<(), Stop<'a>>
+    ensures { OnOk result (Received score (view plan (table_meaning table)) (R.remaining input) (W.contents output.old) (W.contents output.new) (P.contents progress.old) (P.contents progress.new)) }
+{
     match score {
         ScoreKind::Total => receive_by(heap, plan, table, Total, input, output, progress),
         ScoreKind::Worst => receive_by(heap, plan, table, Worst, input, output, progress),
@@ -173,7 +224,9 @@ fn receive_by<'a, K: WrittenKind + Drop, R: Read + Drop, W: Write, P: Write>(
     input: R,
     output: &mut W,
     progress: &mut P,
-) -> Result<(), Stop<'a>> {
+) -> Result<(), Stop<'a>>
+    ensures { OnOk result (Answered (K.Kind.scale kind) K.written (view plan (table_meaning table)) (R.remaining input) (W.contents output.old) (W.contents output.new) (P.contents progress.old) (P.contents progress.new)) }
+{
     let mut reception = Reception::new(heap, plan, table, kind)?;
     Ok(reception::receive(heap, &mut reception, input, output, progress)?)
 }
@@ -184,7 +237,9 @@ fn count_files<'a, W: Write>(
     sent: &'a str,
     shown: &'a str,
     output: &mut W,
-) -> Result<(), Stop<'a>> {
+) -> Result<(), Stop<'a>>
+    ensures { OnOk result ((c : Counts) × Appends (W.contents output.old) (W.contents output.new) (report c)) }
+{
     let sent = BufReader::new(rt.alloc(), opened(rt, sent)?)?;
     let shown = BufReader::new(rt.alloc(), opened(rt, shown)?)?;
     show_count(rt.alloc(), sent, shown, output)
@@ -197,7 +252,8 @@ fn show_count<'a, R: Read + Drop, S: Read + Drop, W: Write>(
     shown: S,
     output: &mut W,
 ) -> Result<(), Stop<'a>>
-    ensures { OnOk result (Counted (R.remaining sent) (S.remaining shown) (W.contents output.old) (W.contents output.new)) }
+    ensures counted { OnOk result (Counted (R.remaining sent) (S.remaining shown) (W.contents output.old) (W.contents output.new)) }
+    ensures some { OnOk result ((c : Counts) × Appends (W.contents output.old) (W.contents output.new) (report c)) }
 {
     let comparison = count(heap, sent, shown)?;
     Ok(write!(output, "{comparison}")?)
@@ -233,7 +289,15 @@ mod tests {
     #[test]
     fn plan_is_shown(rt: HostRuntime) -> Result<(), Fail> {
         let mut said = Vec::new(rt.alloc());
-        if obey(&rt, Order::Plan(CHOICE), &mut said, &mut sink()).is_err() {
+        if obey(
+            &rt,
+            Order::Plan(CHOICE),
+            b"".as_slice(),
+            &mut said,
+            &mut sink(),
+        )
+        .is_err()
+        {
             return Err(Fail::new("the order is not obeyed"));
         }
         let expected =

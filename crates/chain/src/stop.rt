@@ -1,5 +1,8 @@
 // Why the program stops, and how that is said.
+ghost use Rattle.std.specs.Prelude.{◌≡◌};
+ghost use Rattle.laboratory.specs.declared.trouble.Trouble.TheVariants.{Chain, Outside};
 ghost use Rattle.chain.specs.Texts.{stop_text};
+ghost use Rattle.chain.specs.declared.stop.Stop.TheVariants.{Words as TheWords, Work as TheWork};
 
 use entries::Question;
 use laboratory::Trouble;
@@ -42,24 +45,32 @@ impl fmt::Display for Stop<'_> {
 }
 
 impl<'a> From<Slip> for Stop<'a> {
+    ghost from_gives = { λ slip r. r ≡ TheWords slip };
+
     fn from(slip: Slip) -> Stop<'a> {
         Stop::Words(slip)
     }
 }
 
 impl<'a> From<Trouble> for Stop<'a> {
+    ghost from_gives = { λ trouble r. r ≡ TheWork trouble };
+
     fn from(trouble: Trouble) -> Stop<'a> {
         Stop::Work(trouble)
     }
 }
 
 impl<'a> From<ChainFault> for Stop<'a> {
+    ghost from_gives = { λ fault r. r ≡ TheWork (Chain fault) };
+
     fn from(fault: ChainFault) -> Stop<'a> {
         Stop::Work(Trouble::Chain(fault))
     }
 }
 
 impl<'a> From<io::Error> for Stop<'a> {
+    ghost from_gives = { λ error r. r ≡ TheWork (Outside error) };
+
     fn from(error: io::Error) -> Stop<'a> {
         Stop::Work(Trouble::Outside(error))
     }
