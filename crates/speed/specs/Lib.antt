@@ -1,4 +1,5 @@
 pub mod Measuring
 pub mod Values
 pub mod Times
+pub mod Tables
 pub mod Asking

@@ -1,6 +1,7 @@
 // The kinds of score by name, and a score of any kind.
 ghost use Rattle.std.specs.Prelude.{Some};
 ghost use Rattle.speed.specs.Measuring.{score_text};
+ghost use Rattle.speed.specs.Tables.{judge_name};
 
 use score::Tally;
 use std::fmt;
@@ -15,6 +16,8 @@ pub enum Judge {
 pub const JUDGES: [Judge; 3] = [Judge::Total, Judge::Worst, Judge::CountFirst];
 
 impl fmt::Display for Judge {
+    ghost output = { λ j. Some (judge_name j) };
+
     fn fmt<W: fmt::Write>(&self, f: &mut fmt::Formatter<W>) -> fmt::Result {
         f.pad(match self {
             Judge::Total => "Total",

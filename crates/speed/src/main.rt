@@ -17,6 +17,7 @@ use crate::lines::{show_blocks, show_looks};
 use crate::request::{Request, request_of};
 use crate::tables::{show_growth, show_kinds};
 use crate::trouble::Trouble;
+use std::io::writer;
 use std::process::ExitCode;
 use std::{env, io};
 
@@ -33,8 +34,8 @@ fn run(rt: &HostRuntime) -> Result<(), Trouble> {
     let words = env::args(rt)?.skip(1).collect::<Vec<String>>(rt.alloc())?;
     match request_of(words.as_slice())? {
         Request::Fixed => show_fixed(rt),
-        Request::Kinds => show_kinds(rt),
-        Request::Growth => show_growth(rt),
+        Request::Kinds => show_kinds(rt, &mut writer(rt)),
+        Request::Growth => show_growth(rt, &mut writer(rt)),
         Request::Blocks(batch) => show_blocks(rt, batch),
         Request::Looks(batch) => show_looks(rt, batch),
     }

@@ -1,5 +1,6 @@
 // Looks by the clock.
-ghost use Rattle.std.specs.Prelude.{◌≡◌};
+ghost use Rattle.std.specs.Prelude.{◌≡◌, IfOk};
+ghost use Rattle.speed.specs.Tables.{Looks};
 ghost use Rattle.speed.specs.Times.{with_look, rate, look_time, look_trips, bit_time};
 
 use crate::decoder::{Decoder, Look};
@@ -80,7 +81,9 @@ pub(crate) fn measured(
     plan: &Plan,
     judge: Judge,
     decibels: i8,
-) -> Result<Taken, Trouble> {
+) -> Result<Taken, Trouble>
+    ensures { IfOk result (λ t. Looks t) }
+{
     let mut decoder = Decoder::new(rt.alloc(), plan)?;
     let mut source = Source::new(plan, decibels, SEED);
     let mut taken = Taken::default();
