@@ -1,10 +1,11 @@
 -- What a symbol meets on the air.
 -- Assumes nothing.
-use Rattle.std.specs.Prelude.{ℕ}
-use Rattle.std.specs.Float.{float_clamp}
-use Rattle.std.specs.Float.Ieee.{Float, binary64, add, mul, of_bits}
+use Rattle.std.specs.Prelude.{ℕ, zero, suc, ℤ, pos, negsuc}
+use Rattle.std.specs.Float.{float_one, float_clamp}
+use Rattle.std.specs.Float.Ieee.{Float, binary64, add, mul, div, of_bits}
 use Rattle.channel.specs.Drawing.{state_after}
 use Rattle.channel.specs.Fractions.{normal}
+use Rattle.channel.specs.Plane.{diagonal}
 use Rattle.channel.specs.declared.air.Air.{Air}
 use Rattle.channel.specs.declared.phase.Point.{Point}
 
@@ -41,3 +42,27 @@ aired a = record {
   amplitude = faded a;
   noise = a.noise;
 }
+
+-- 10 to the power -1/20: the ratio of two amplitudes that are one decibel apart
+abbrev pub decibel : Float
+decibel = of_bits binary64 0x3fec8520affa0a4b
+
+-- the deviation of the noise in each direction where a symbol of amplitude 1 has the noise's power is one by the root of 2;
+-- where it has n decibels more, the noise is n times a decibel weaker
+abbrev pub weaker : ℕ → Float
+weaker zero = diagonal
+weaker (suc n) = mul binary64 (weaker n) decibel
+
+-- where it has n decibels less, the noise is n times a decibel stronger
+abbrev pub stronger : ℕ → Float
+stronger zero = diagonal
+stronger (suc n) = div binary64 (stronger n) decibel
+
+-- the deviation of the noise at so many decibels
+unfoldable pub noise_at : ℤ → Float
+noise_at (pos n) = weaker n
+noise_at (negsuc n) = stronger (suc n)
+
+-- air of a seed and so many decibels, in which nothing has been drawn and nothing has faded yet
+abbrev pub fresh : ℕ → ℤ → Air
+fresh seed decibels = record { generator = record { state = seed }; amplitude = float_one; noise = noise_at decibels }

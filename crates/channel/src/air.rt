@@ -1,7 +1,6 @@
 // The air between sender and receiver: a slow fade, and noise.
 ghost use Rattle.std.specs.Prelude.{◌≡◌, true, false, is_ok, IfOk, nat_le};
-ghost use Rattle.std.specs.Float.{float_one};
-ghost use Rattle.channel.specs.Airs.{arrived, aired};
+ghost use Rattle.channel.specs.Airs.{fresh, arrived, aired};
 ghost use Rattle.channel.specs.Hearing.{Hearable};
 ghost use Rattle.channel.specs.Plane.{phase_point, decided};
 ghost use Rattle.plan.specs.Plans.{plan_scheme};
@@ -32,8 +31,7 @@ const MOST: f64 = 1.5;
 impl Air {
     // Air in which a symbol has so many decibels more power than the noise, before it fades.
     pub fn new(seed: u64, decibels: i8) -> Air
-        ensures seed { result.generator.state ≡ seed }
-        ensures unfaded { result.amplitude ≡ float_one }
+        ensures { result ≡ fresh seed decibels }
     {
         Air {
             generator: Generator::new(seed),

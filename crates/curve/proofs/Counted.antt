@@ -8,10 +8,11 @@ use Rattle.std.proofs.Math.IntN.{+ℤ_assoc, +ℤ_idr}
 use Rattle.std.proofs.Math.ListN.{get_or-append}
 use Rattle.std.proofs.Math.Nat.{eq-or-lt_of_le}
 use Rattle.std.proofs.Math.Seq.{get_or-append_seam}
+use Rattle.channel.specs.Airs.{fresh}
 use Rattle.channel.specs.declared.air.Air.{Air}
 use Rattle.plan.specs.Scheme.{Scheme}
 use Rattle.rows.specs.Schemes.{row_scheme}
-use Rattle.curve.specs.Dots.{with_trial, trial_air, counted, IsFresh, IsDot}
+use Rattle.curve.specs.Dots.{with_trial, trial_air, counted, IsDot}
 use Rattle.curve.specs.Trials.{drawn_block, decoded_block, decoded_score, trial_view, trial_calls, next_air, IsTrial}
 use Rattle.curve.specs.declared.choice.Run.{Run}
 use Rattle.curve.specs.declared.counting.Dot.{Dot}
@@ -83,8 +84,8 @@ weaker P Q None f h = tt
 weaker P Q (Some s) f h = f s h
 
 -- all trials are counted
-pub finished : (run : Run) (decibels : ℤ) (start air : Air) (n : ℕ) (dot : Dot) → n ≡ run.blocks → IsFresh run.seed start →
+pub finished : (run : Run) (decibels : ℤ) (start air : Air) (n : ℕ) (dot : Dot) → n ≡ run.blocks → start ≡ fresh run.seed decibels →
     IfSome (row_scheme run.choice.row run.choice.constraint) (Stands start decibels n air dot) → IsDot run decibels dot
-finished run decibels start air n dot e fresh h =
-    weaker (Stands start decibels n air dot) (λ s. (a : Air) × IsFresh run.seed a × (dot ≡ counted s a decibels run.blocks))
-    (row_scheme run.choice.row run.choice.constraint) (λ s k. (start, fresh, k.1 ∙ ap (counted s start decibels) e)) h
+finished run decibels start air n dot e begun h =
+    weaker (Stands start decibels n air dot) (λ s. dot ≡ counted s (fresh run.seed decibels) decibels run.blocks)
+    (row_scheme run.choice.row run.choice.constraint) (λ s k. k.1 ∙ (λ i. counted s (begun i) decibels (e i))) h

@@ -3,3 +3,4 @@ mod Tried
 mod Turns
 pub mod Requests
 pub mod Plotted
+pub mod Rated

@@ -1,13 +1,13 @@
 -- Lemmas on the text of dots.
 -- Assumes nothing.
-use Rattle.std.proofs.Common.{◌≡◌, ℕ, ◌+◌, ◌<◌, List, [], ◌∷◌, ◌++◌, Option, length, take, drop, get_or, map, sym, refl, ap, ◌∙◌, subst, append_assoc, append-nil, add-one, add-zero, drop-cons, length-take, arith, rules}
+use Rattle.std.proofs.Common.{◌≡◌, ℕ, ◌+◌, ◌<◌, List, [], ◌∷◌, ◌++◌, Option, length, take, get_or, map, sym, ap, ◌∙◌, subst, append_assoc, append-nil, add-zero, length-take, arith}
 use Rattle.std.specs.Prelude.{ℤ}
 use Rattle.std.specs.Io.KnownBytes.{Appends}
 use Rattle.std.specs.List.{flat_map}
 use Rattle.std.proofs.KnownBytes.{Appends-trans}
 use Rattle.std.proofs.lemmas.Grind.{flat_map-append}
 use Rattle.std.proofs.lemmas.List.{length-map, map-append, take_more}
-use Rattle.curve.specs.Plots.{dot_line, AreDotLines, decibels_in, dots_head, mark, plot_line, plot_lines}
+use Rattle.curve.specs.Plots.{numbered, dot_line, decibels_in, dots_head, dots_text, mark}
 use Rattle.curve.specs.declared.counting.Dot.{Dot}
 
 -- the texts of one more element
@@ -29,57 +29,40 @@ ratios_more dots i d z h e =
     let f : Dot → List ℕ = λ dot. decibels_in 5 dot.decibels in
     ap (λ t. flat_map f (take i dots) ++ decibels_in 5 t) e ∙ spread_more f dots i d h
 
-lines_push : (dots : List Dot) (line : ℕ) (labels : List (List ℕ)) (label : List ℕ) →
-    plot_lines dots line (labels ++ label ∷ []) ≡ plot_lines dots line labels ++ plot_line dots (line + length labels) label
-lines_push dots line [] label = append-nil (plot_line dots line label) ∙ ap (λ n. plot_line dots n label) (sym (add-zero line))
-lines_push dots line (x ∷ labels) label =
-    let later : line + 1 + length labels ≡ line + length (x ∷ labels) = omega arith in
-    ap (λ l. plot_line dots line x ++ l) (lines_push dots (line + 1) labels label ∙ ap (λ n. plot_lines dots (line + 1) labels ++ plot_line dots n label) later)
-    ∙ sym (append_assoc (plot_line dots line x) (plot_lines dots (line + 1) labels) (plot_line dots (line + length (x ∷ labels)) label))
+numbered_push : {X : Type 0} (f : ℕ → X → List ℕ) (n : ℕ) (xs : List X) (x : X) →
+    numbered f n (xs ++ x ∷ []) ≡ numbered f n xs ++ f (n + length xs) x
+numbered_push f n [] x = append-nil (f n x) ∙ ap (λ k. f k x) (sym (add-zero n))
+numbered_push f n (y ∷ xs) x =
+    let later : n + 1 + length xs ≡ n + length (y ∷ xs) = omega arith in
+    ap (λ l. f n y ++ l) (numbered_push f (n + 1) xs x ∙ ap (λ k. numbered f (n + 1) xs ++ f k x) later)
+    ∙ sym (append_assoc (f n y) (numbered f (n + 1) xs) (f (n + length (y ∷ xs)) x))
 
--- the line of one more label
-pub lines_more : {X : Type 0} (dots : List Dot) (labels : List X) (f : X → List ℕ) (i : ℕ) (d : X) (text : List ℕ) → i < length labels →
-    text ≡ plot_line dots i (f (get_or labels i d)) → plot_lines dots 0 (map f (take i labels)) ++ text ≡ plot_lines dots 0 (map f (take (i + 1) labels))
-lines_more dots labels f i d text h e =
+-- the text of one more element
+pub numbered_more : {X : Type 0} (f : ℕ → X → List ℕ) (xs : List X) (i : ℕ) (d : X) (text : List ℕ) → i < length xs →
+    text ≡ f i (get_or xs i d) → numbered f 0 (take i xs) ++ text ≡ numbered f 0 (take (i + 1) xs)
+numbered_more f xs i d text h e =
+    let x = get_or xs i d in
+    let before = take i xs in
+    let long : 0 + length before ≡ i = omega (arith, length-take i xs) in
+    ap (λ t. numbered f 0 before ++ t) e
+    ∙ sym (ap (numbered f 0) (take_more xs i d h) ∙ numbered_push f 0 before x ∙ ap (λ n. numbered f 0 before ++ f n x) long)
+
+-- the same of the labels that elements hold
+pub labels_more : {X : Type 0} (f : ℕ → List ℕ → List ℕ) (labels : List X) (g : X → List ℕ) (i : ℕ) (d : X) (text : List ℕ) → i < length labels →
+    text ≡ f i (g (get_or labels i d)) → numbered f 0 (map g (take i labels)) ++ text ≡ numbered f 0 (map g (take (i + 1) labels))
+labels_more f labels g i d text h e =
     let x = get_or labels i d in
-    let before = map f (take i labels) in
-    let long : 0 + length before ≡ i = omega (arith, length-map (take i labels) f, length-take i labels) in
-    ap (λ t. plot_lines dots 0 before ++ t) e
-    ∙ sym (ap (λ l. plot_lines dots 0 (map f l)) (take_more labels i d h) ∙ ap (plot_lines dots 0) (map-append f (take i labels) (x ∷ []))
-    ∙ lines_push dots 0 before (f x) ∙ ap (λ n. plot_lines dots 0 before ++ plot_line dots n (f x)) long)
-
--- the lines of the first dots are written, and with those of the others they are those of all
-pub record Shown (dots : List Dot) (n : ℕ) (w v : Option (List ℕ)) : Type 0 where
-  pub text : List ℕ
-  pub written : Appends w v (dots_head ++ text)
-  pub rest : (more : List ℕ) → AreDotLines (drop n dots) more → AreDotLines dots (text ++ more)
-
-pub shown_none : (dots : List Dot) (w v : Option (List ℕ)) → Appends w v dots_head → Shown dots 0 w v
-shown_none dots w v h = record {
-  text = [];
-  written = subst (Appends w v) (sym (append-nil dots_head)) h;
-  rest = λ more lines. lines;
-}
+    let before = map g (take i labels) in
+    let long : 0 + length before ≡ i = omega (arith, length-map (take i labels) g, length-take i labels) in
+    ap (λ t. numbered f 0 before ++ t) e
+    ∙ sym (ap (λ l. numbered f 0 (map g l)) (take_more labels i d h) ∙ ap (numbered f 0) (map-append g (take i labels) (x ∷ []))
+    ∙ numbered_push f 0 before (g x) ∙ ap (λ n. numbered f 0 before ++ f n (g x)) long)
 
 -- the line of one dot more
-pub shown_more : (dots : List Dot) (n : ℕ) (w v v' : Option (List ℕ)) (d : Dot) (rate : List ℕ) → n < length dots →
-    Shown dots n w v → Appends v v' (dot_line (get_or dots n d) rate) → Shown dots (n + 1) w v'
-shown_more dots n w v v' d rate h s a =
-    let here : drop n dots ≡ get_or dots n d ∷ drop (n + 1) dots = rw (add-one, drop-cons dots n d) in
-    let line = dot_line (get_or dots n d) rate in
-    record {
-      text = s.text ++ line;
-      written = subst (Appends w v') (append_assoc dots_head s.text line) (Appends-trans w v v' (dots_head ++ s.text) line s.written a);
-      rest = λ more lines. subst (AreDotLines dots) (sym (append_assoc s.text line more))
-          (s.rest (line ++ more) (subst (λ l. AreDotLines l (line ++ more)) (sym here) (rate, more, refl, lines)));
-    }
-
-none_left : (dots : List Dot) → AreDotLines (drop (length dots) dots) []
-none_left [] = refl
-none_left (d ∷ dots) = none_left dots
-
--- the lines of all dots
-pub shown_all : (dots : List Dot) (n : ℕ) (w v : Option (List ℕ)) → n ≡ length dots → Shown dots n w v →
-    (text : List ℕ) × AreDotLines dots text × Appends w v (dots_head ++ text)
-shown_all dots n w v e s =
-    (s.text, subst (AreDotLines dots) (append-nil s.text) (s.rest [] (subst (λ k. AreDotLines (drop k dots) []) (sym e) (none_left dots))), s.written)
+pub dots_more : (dots : List Dot) (i : ℕ) (d : Dot) (w v v' : Option (List ℕ)) → i < length dots →
+    Appends w v (dots_text (take i dots)) → Appends v v' (dot_line (get_or dots i d)) → Appends w v' (dots_text (take (i + 1) dots))
+dots_more dots i d w v v' h written more =
+    let lines = flat_map dot_line (take i dots) in
+    let line = dot_line (get_or dots i d) in
+    subst (Appends w v') (append_assoc dots_head lines line ∙ ap (λ l. dots_head ++ l) (spread_more dot_line dots i d h))
+    (Appends-trans w v v' (dots_head ++ lines) line written more)

@@ -1,8 +1,8 @@
 -- What is counted at a ratio.
 -- Assumes nothing.
 use Rattle.std.specs.Prelude.{◌≡◌, ℕ, zero, suc, ◌<◌, List, length, ℤ, pos, ◌+ℤ◌, ◌≤ℤ◌, IfSome, slice_index_or}
-use Rattle.std.specs.Float.{float_one}
 use Rattle.std.specs.Float.Ieee.{Float, binary64, div, of_int}
+use Rattle.channel.specs.Airs.{fresh}
 use Rattle.channel.specs.declared.air.Air.{Air}
 use Rattle.errors.specs.Errors.{added, with_block}
 use Rattle.errors.specs.declared.Count.{Count}
@@ -41,15 +41,10 @@ module _ (s : Scheme) (air : Air) where
   counted decibels zero = empty_dot decibels
   counted decibels (suc n) = with_next n (counted decibels n)
 
--- air in which nothing has been drawn yet and nothing fades; how strong its noise is stays open
-pub record IsFresh (seed : ℕ) (air : Air) : Type 0 where
-  pub state : air.generator.state ≡ seed
-  pub unfaded : air.amplitude ≡ float_one
-
--- the dot of a run at a ratio: each ratio begins with the run's seed
+-- the dot of a run at a ratio: each ratio has air of its own strength, and begins with the run's seed
 abbrev pub IsDot : Run → ℤ → Dot → Type 0
 IsDot run decibels d =
-    IfSome (row_scheme run.choice.row run.choice.constraint) (λ s. (air : Air) × IsFresh run.seed air × (d ≡ counted s air decibels run.blocks))
+    IfSome (row_scheme run.choice.row run.choice.constraint) (λ s. d ≡ counted s (fresh run.seed decibels) decibels run.blocks)
 
 -- the dots of a run, in the order of the ratios: behind them comes the ratio behind the last
 pub record IsCurve (run : Run) (dots : List Dot) : Type 0 where

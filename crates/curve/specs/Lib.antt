@@ -2,6 +2,7 @@ pub mod Calls
 pub mod Captions
 pub mod Checksum
 pub mod Dots
+pub mod Pictures
 pub mod Plots
 pub mod Sentences
 pub mod Trials

@@ -1,13 +1,20 @@
 -- The dots as lines of numbers, and as a plot of text.
 -- Assumes nothing.
-use Rattle.std.specs.Prelude.{◌≡◌, ℕ, ◌+◌, ◌-◌, ◌^◌, ℤ, List, [], ◌∷◌, ◌++◌, codes, count_by, ◌==◌, if◌then◌else◌}
+use Rattle.std.specs.Prelude.{ℕ, ◌+◌, ◌-◌, ◌*◌, ◌/◌, ◌%◌, ◌^◌, ◌<◌, ◌≤◌, ℤ, List, [], ◌∷◌, ◌++◌, codes, count_by, ◌==◌, if◌then◌else◌}
 use Rattle.std.specs.Float.Ieee.{Float, binary64, lt, of_bits}
 use Rattle.std.specs.Fmt.{format_spec, styled_decimal, styled_signed_decimal}
 use Rattle.std.specs.List.{flat_map}
+use Rattle.errors.specs.declared.Count.{Count}
 use Rattle.curve.specs.Captions.{caption}
 use Rattle.curve.specs.Dots.{rate_of}
 use Rattle.curve.specs.declared.choice.Choice.{Choice}
 use Rattle.curve.specs.declared.counting.Dot.{Dot}
+
+module _ {X : Type 0} (text : ℕ → X → List ℕ) where
+  -- the texts of all elements, numbered from n on
+  abbrev pub numbered : ℕ → List X → List ℕ
+  numbered n [] = []
+  numbered n (x ∷ xs) = text n x ++ numbered (n + 1) xs
 
 -- a number at the right end of so many columns
 abbrev pub number_in : ℕ → ℕ → List ℕ
@@ -16,19 +23,35 @@ number_in columns n = styled_decimal (format_spec 32 3 0 columns (2 ^ 64 - 1)) n
 abbrev pub decibels_in : ℕ → ℤ → List ℕ
 decibels_in columns z = styled_signed_decimal (format_spec 32 3 0 columns (2 ^ 64 - 1)) z
 
--- the line of a dot: what is counted, with the rate's text between the errors and the score
-abbrev pub dot_line : Dot → List ℕ → List ℕ
-dot_line d rate =
-    decibels_in 5 d.decibels ++ (number_in 8 d.count.blocks ++ (number_in 10 d.count.bits ++ (number_in 12 d.count.bit_errors
-    ++ (number_in 14 d.count.block_errors ++ (rate ++ (number_in 14 d.score ++ (10 ∷ [])))))))
+-- a number by so many digits, zeros in front
+abbrev pub digits_in : ℕ → ℕ → List ℕ
+digits_in columns n = styled_decimal (format_spec 32 0 4 columns (2 ^ 64 - 1)) n
 
--- a line for each dot
-abbrev pub AreDotLines : List Dot → List ℕ → Type 0
-AreDotLines [] text = text ≡ []
-AreDotLines (d ∷ ds) text = (rate : List ℕ) × (rest : List ℕ) × (text ≡ dot_line d rate ++ rest) × AreDotLines ds rest
+-- bit errors for each bit in hundred-thousandths, to the nearest and a half upward; 0 where there is no bit
+abbrev pub hundred_thousandths : Count → ℕ
+hundred_thousandths c = if c.bits == 0 then 0 else (c.bit_errors * 200000 + c.bits) / (c.bits * 2)
+
+-- e by b, in hundred-thousandths, is no farther than a half from h
+pub record IsNearest (e b h : ℕ) : Type 0 where
+  pub low : h * (b * 2) ≤ e * 200000 + b
+  pub high : e * 200000 + b < h * (b * 2) + b * 2
+
+-- the rate by five decimals
+abbrev pub rate_text : Count → List ℕ
+rate_text c = number_in 3 (hundred_thousandths c / 100000) ++ (46 ∷ digits_in 5 (hundred_thousandths c % 100000))
+
+-- the line of a dot: what is counted, the rate, and the score
+abbrev pub dot_line : Dot → List ℕ
+dot_line d =
+    decibels_in 5 d.decibels ++ (number_in 8 d.count.blocks ++ (number_in 10 d.count.bits ++ (number_in 12 d.count.bit_errors
+    ++ (number_in 14 d.count.block_errors ++ (rate_text d.count ++ (number_in 14 d.score ++ (10 ∷ [])))))))
 
 abbrev pub dots_head : List ℕ
 dots_head = codes "   dB  blocks      bits  bit errors  block errors     rate         score\n"
+
+-- a line for each dot, under a line with what its numbers are
+abbrev pub dots_text : List Dot → List ℕ
+dots_text dots = dots_head ++ flat_map dot_line dots
 
 -- the rates at which the plot has a line: 1/2, 1/5, 1/10, down to 1/2000
 abbrev pub levels : List Float
@@ -51,8 +74,7 @@ plot_line dots line label = label ++ (flat_map (mark line) dots ++ (10 ∷ []))
 
 -- lines one under the other
 abbrev pub plot_lines : List Dot → ℕ → List (List ℕ) → List ℕ
-plot_lines dots line [] = []
-plot_lines dots line (label ∷ labels) = plot_line dots line label ++ plot_lines dots (line + 1) labels
+plot_lines dots = numbered (plot_line dots)
 
 abbrev pub labels : List (List ℕ)
 labels =

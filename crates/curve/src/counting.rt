@@ -1,6 +1,7 @@
 // The dots of a curve: what is counted at each ratio.
-ghost use Rattle.std.specs.Prelude.{◌≡◌, IfOk};
+ghost use Rattle.std.specs.Prelude.{◌≡◌, ◌<◌, IfOk};
 ghost use Rattle.curve.specs.Dots.{with_trial, rate_of, IsDot, IsCurve};
+ghost use Rattle.curve.specs.Plots.{hundred_thousandths, IsNearest};
 
 use crate::choice::Run;
 use crate::trial::{Trial, run_trial};
@@ -38,6 +39,21 @@ impl Dot {
             ..
         } = self.count;
         nearest_u64_to_f64(bit_errors as u64) / nearest_u64_to_f64(bits as u64)
+    }
+
+    // The same in hundred-thousandths, to the nearest and a half upward; 0 where there is no bit.
+    pub(crate) fn hundred_thousandths(&self) -> u128
+        ensures value { result ≡ hundred_thousandths self.now.count }
+        ensures nearest { 0 < self.now.count.bits → IsNearest self.now.count.bit_errors self.now.count.bits result }
+    {
+        let Count {
+            bits,
+            bit_errors,
+            ..
+        } = self.count;
+        (bit_errors as u128 * 200_000 + bits as u128)
+            .checked_div(bits as u128 * 2)
+            .unwrap_or(0)
     }
 }
 

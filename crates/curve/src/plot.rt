@@ -1,13 +1,12 @@
 // The dots as lines of numbers, and as a plot of text.
-ghost use Rattle.std.specs.Prelude.{◌≡◌, List, ℕ, ◌++◌, map, Some, OnOk};
+ghost use Rattle.std.specs.Prelude.{◌≡◌, map, Some, OnOk};
 ghost use Rattle.std.specs.Io.KnownBytes.{Appends};
 ghost use Rattle.std.specs.List.{flat_map};
-ghost use Rattle.curve.specs.Plots.{dot_line, AreDotLines, dots_head, line_of, mark, plot_line, plot_lines, decibels_in, scale, plot};
+ghost use Rattle.curve.specs.Plots.{dot_line, dots_text, rate_text, line_of, mark, plot_line, plot_lines, decibels_in, scale, plot};
 
 use crate::choice::Choice;
 use crate::counting::Dot;
 use errors::Count;
-use std::alloc::Global;
 use std::io::Write;
 use std::{fmt, io};
 
@@ -30,59 +29,65 @@ static LABELS: [&str; 11] = [
 ];
 
 // A line for each dot, under a line with what its numbers are.
-pub(crate) fn show_dots<W: Write>(heap: Global, output: &mut W, dots: &[Dot]) -> io::Result<()>
-    ensures { OnOk result ((text : List ℕ) × AreDotLines dots.now text × Appends (W.contents output.old) (W.contents output.new) (dots_head ++ text)) }
+pub(crate) fn show_dots<W: Write>(output: &mut W, dots: &[Dot]) -> io::Result<()>
+    ensures { OnOk result (Appends (W.contents output.old) (W.contents output.new) (dots_text dots.now)) }
 {
     write!(
         output,
         "   dB  blocks      bits  bit errors  block errors     rate         score\n"
     )?;
     for dot in dots {
-        show_dot(heap, output, dot)?;
+        show_dot(output, dot)?;
     }
     Ok(())
 }
 
-// The rate is written first: no contract says how a float is.
-fn show_dot<W: Write>(heap: Global, output: &mut W, dot: &Dot) -> io::Result<()>
-    ensures { OnOk result ((rate : List ℕ) × Appends (W.contents output.old) (W.contents output.new) (dot_line dot.now rate)) }
+fn show_dot<W: Write>(output: &mut W, dot: &Dot) -> io::Result<()>
+    ensures { OnOk result (Appends (W.contents output.old) (W.contents output.new) (dot_line dot.now)) }
 {
-    let rate = dot.rate();
-    let rate = format!(in heap; "{rate:>9.5}")?;
-    let line = DotLine {
-        dot: *dot,
-        rate: rate.as_str(),
-    };
+    let line = DotLine(*dot);
     write!(output, "{line}")
 }
 
-// What is counted of a dot, with the text of its rate.
+// What is counted of a dot.
 #[derive(Clone, Copy)]
-struct DotLine<'a> {
-    dot: Dot,
-    rate: &'a str,
-}
+struct DotLine(Dot);
 
-impl fmt::Display for DotLine<'_> {
-    ghost output = { λ line. Some (dot_line line.dot line.rate.now) };
+impl fmt::Display for DotLine {
+    ghost output = { λ line. Some (dot_line line.0) };
 
     fn fmt<W: fmt::Write>(&self, f: &mut fmt::Formatter<W>) -> fmt::Result {
         let Dot {
             decibels,
             count,
             score,
-        } = self.dot;
+        } = self.0;
         let Count {
             blocks,
             bits,
             bit_errors,
             block_errors,
         } = count;
-        let rate = self.rate;
+        let rate = Rate(self.0);
         write!(
             f,
             "{decibels:>5}{blocks:>8}{bits:>10}{bit_errors:>12}{block_errors:>14}{rate}{score:>14}\n"
         )
+    }
+}
+
+// The rate of a dot, by five decimals. Not as a float: no contract says how one is written.
+#[derive(Clone, Copy)]
+struct Rate(Dot);
+
+impl fmt::Display for Rate {
+    ghost output = { λ rate. Some (rate_text rate.0.count) };
+
+    fn fmt<W: fmt::Write>(&self, f: &mut fmt::Formatter<W>) -> fmt::Result {
+        let parts = self.0.hundred_thousandths();
+        let whole = parts / 100_000;
+        let part = parts % 100_000;
+        write!(f, "{whole:>3}.{part:05}")
     }
 }
 

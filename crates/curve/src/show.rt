@@ -38,12 +38,12 @@ pub(crate) fn show_rows(rt: &HostRuntime) -> io::Result<()> {
 pub(crate) fn show_curve(rt: &HostRuntime, run: Run) -> Result<(), Trouble> {
     let dots = dots_of(rt, run)?;
     if run.svg {
-        return Ok(show_svg(rt, run.choice, dots.as_slice())?);
+        return Ok(show_svg(&mut rt.stdout(), run.choice, dots.as_slice())?);
     }
     let plan = run.choice.row.plan(rt.alloc(), run.choice.constraint)?;
     show_choice(rt, run.choice)?;
     show_plan(rt, &plan)?;
-    show_dots(rt.alloc(), &mut rt.stdout(), dots.as_slice())?;
+    show_dots(&mut rt.stdout(), dots.as_slice())?;
     Ok(show_plot(&mut rt.stdout(), run.choice, dots.as_slice())?)
 }
 

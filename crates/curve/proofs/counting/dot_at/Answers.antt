@@ -24,4 +24,4 @@ returns c =
     let all : c.loop.counter ≡ run.blocks = search rules in
     let same : to_z w8 (of_z w8 c.args.decibels) ≡ c.args.decibels = search rules in
     subst (λ z. IsDot run z c.loop.dot) same
-    (finished run _ c.new-air.result c.loop.air c.loop.counter c.loop.dot all (record { state = c.new-air.ensures.seed; unfaded = c.new-air.ensures.unfaded }) c.loop.invariant)
+    (finished run _ c.new-air.result c.loop.air c.loop.counter c.loop.dot all c.new-air.ensures c.loop.invariant)
