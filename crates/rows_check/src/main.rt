@@ -3,6 +3,7 @@
 
 mod refusals;
 
+use crate::refusals::write_all;
 use rows_text::{write_bands, write_lists};
 use std::io;
 use std::io::{BufWriter, Write, writer};
@@ -11,6 +12,6 @@ fn main(rt: HostRuntime) -> io::Result<()> {
     let mut output = BufWriter::new(rt.alloc(), writer(&rt))?;
     write_bands(&mut output)?;
     write_lists(rt.alloc(), &mut output)?;
-    output.flush()?;
-    refusals::print_all(&rt)
+    write_all(rt.alloc(), &mut output)?;
+    output.flush()
 }

@@ -32,7 +32,7 @@ fn print_list(rt: &HostRuntime, row: Row, plan: &Plan) -> io::Result<()> {
 fn print_symbol(rt: &HostRuntime, number: u8, plan: &Plan) -> io::Result<()> {
     let bits = plan.parts().symbol_bits;
     let symbol = symbol_for(plan, number);
-    println!(rt; "{number:0bits$b} is symbol {symbol}")
+    println!(rt; "of {bits} bits: {number:0bits$b} is symbol {symbol}")
 }
 
 // Prints an example of the plan of the row at 3 kHz with the shortest interleaver, and constraint length 7.
