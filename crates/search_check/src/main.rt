@@ -52,11 +52,12 @@ impl Agreed {
     }
 }
 
+// Every other list is sparse.
 fn compare(plan: &Plan, lists: u32) -> Agreed {
     let mut drawn = Values::new();
     let mut agreed = Agreed::default();
-    for _ in 0..lists {
-        agreed.add(plan, &drawn.draw());
+    for list in 0..lists {
+        agreed.add(plan, &drawn.draw(list % 2 == 1));
     }
     agreed
 }
@@ -70,9 +71,9 @@ fn main(rt: HostRuntime) -> io::Result<()> {
             total,
             worst,
             count_first,
-        } = compare(&plan, 100);
+        } = compare(&plan, 200);
         println!(rt;
-            "constraint length {constraint}, of 100 lists of values: Total {total}, Worst {worst}, Count-first {count_first} agree"
+            "constraint length {constraint}, of 200 lists of values: Total {total}, Worst {worst}, Count-first {count_first} agree"
         )?;
     }
     Ok(())

@@ -9,11 +9,12 @@ impl Values {
         Values(5069)
     }
 
-    // Eighteen values, each 0, or 1, 2 or 3 with either sign.
-    pub(crate) fn draw(&mut self) -> [i16; 18] {
+    // Eighteen values, each 0, or 1, 2 or 3 with either sign. In a sparse list most are 0, so that many blocks are best.
+    pub(crate) fn draw(&mut self, sparse: bool) -> [i16; 18] {
         let mut values = [0i16; 18];
         for value in values.iter_mut() {
-            *value = self.next();
+            let kept = !sparse || self.next() != 0;
+            *value = if kept { self.next() } else { 0 };
         }
         values
     }
