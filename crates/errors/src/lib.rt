@@ -16,7 +16,11 @@ pub struct Count {
 pub fn differences(sent: &[u8], shown: &[u8]) -> usize
     ensures { result ≡ differing sent.now shown.now }
 {
-    let unequal = sent.iter().zip(shown).filter(|(a, b)| a != b).count();
+    // by a fold: a filter and its count take several times as long
+    let unequal = sent
+        .iter()
+        .zip(shown)
+        .fold(0, |n: usize, (a, b)| n.wrapping_add(usize::from(a != b)));
     unequal + sent.len().abs_diff(shown.len())
 }
 
