@@ -11,7 +11,7 @@ cond_le : (b : Bool) → cond b 1 0 ≤ 1
 cond_le true = omega arith
 cond_le false = omega arith
 
-bit_le : (block : List ℕ) (i : ℕ) → bit_at block i ≤ 1
+pub bit_le : (block : List ℕ) (i : ℕ) → bit_at block i ≤ 1
 bit_le block i = cond_le (eqb (get_or block i 0) 1)
 
 -- what i bits write, with zeros after them up to eight

@@ -5,7 +5,7 @@ ghost use Rattle.lines.specs.declared.fault.LineFault.TheVariants.{Chain};
 ghost use Rattle.plan.specs.declared.fault.ChainFault.TheVariants.{OutOfMemory};
 
 use plan::ChainFault;
-use std::alloc::AllocError;
+use std::alloc::{AllocError, AllocFailed};
 
 #[derive(Clone, Copy)]
 pub enum LineFault {
@@ -26,11 +26,19 @@ impl From<ChainFault> for LineFault {
     }
 }
 
-// By hand: a derive's `From` has no contract, and what `?` answers is part of what is proved.
+// Two impls by hand: a derive's `From` has no contract, and what `?` answers is part of what is proved.
 impl From<AllocError> for LineFault {
     ghost from_gives = { λ _ r. r ≡ Chain OutOfMemory };
 
     fn from(_e: AllocError) -> LineFault {
+        LineFault::Chain(ChainFault::OutOfMemory)
+    }
+}
+
+impl<T: Drop> From<AllocFailed<T>> for LineFault {
+    ghost from_gives = { λ _ r. r ≡ Chain OutOfMemory };
+
+    fn from(_e: AllocFailed<T>) -> LineFault {
         LineFault::Chain(ChainFault::OutOfMemory)
     }
 }

@@ -1,5 +1,6 @@
 // Bytes as upper-case hexadecimal text, two digits a byte.
 ghost use Rattle.std.specs.Prelude.{◌≡◌, ℕ, ◌*◌, ◌<◌, ◌≤◌, [], ◌∷◌, length, Some, MatchOption, vec_capacity, ◌≢◌};
+ghost use Rattle.std.specs.Fmt.{WritesOnOk};
 ghost use Rattle.lines.specs.Hex.{hex_digit, hex};
 ghost use Rattle.lines.specs.Readings.{HexReading};
 
@@ -49,6 +50,39 @@ pub(crate) fn read_hex(room: Vec<u8>, text: &[u8]) -> Result<Vec<u8>, LineFault>
     }
 }
 
+// The digit of a number below 16, as text.
+fn digit(number: u8) -> &'static str
+    requires { number < 16 }
+    ensures { result.now ≡ hex_digit number ∷ [] }
+{
+    match number {
+        0 => "0",
+        1 => "1",
+        2 => "2",
+        3 => "3",
+        4 => "4",
+        5 => "5",
+        6 => "6",
+        7 => "7",
+        8 => "8",
+        9 => "9",
+        10 => "A",
+        11 => "B",
+        12 => "C",
+        13 => "D",
+        14 => "E",
+        _ => "F",
+    }
+}
+
+// Writes the two digits of a byte, each by itself: a number with a width takes several times as long.
+pub(crate) fn write_byte<W: fmt::Write>(byte: u8, f: &mut fmt::Formatter<W>) -> fmt::Result
+    ensures { WritesOnOk W.write_str_gives f.old result (hex (byte ∷ [])) f.new }
+{
+    f.write_str(digit(byte / 16))?;
+    f.write_str(digit(byte % 16))
+}
+
 // Bytes, as two digits each.
 #[derive(Clone, Copy)]
 pub(crate) struct Hex<'a>(pub(crate) &'a [u8]);
@@ -58,7 +92,7 @@ impl fmt::Display for Hex<'_> {
 
     fn fmt<W: fmt::Write>(&self, f: &mut fmt::Formatter<W>) -> fmt::Result {
         for &byte in self.0 {
-            write!(f, "{byte:02X}")?;
+            write_byte(byte, f)?;
         }
         Ok(())
     }

@@ -4,7 +4,7 @@ ghost use Rattle.lines.specs.Answers.{bits_number, bits_packed, answer_text};
 ghost use Rattle.lines.specs.Hex.{hex, big_endian};
 
 use crate::answer::Answer;
-use crate::hex::Hex;
+use crate::hex::{Hex, write_byte};
 use std::alloc::{AllocError, Global};
 use std::fmt;
 
@@ -17,8 +17,7 @@ impl fmt::Display for Packed<'_> {
 
     fn fmt<W: fmt::Write>(&self, f: &mut fmt::Formatter<W>) -> fmt::Result {
         for bits in self.0.chunks(8) {
-            let byte = octet(bits);
-            write!(f, "{byte:02X}")?;
+            write_byte(octet(bits), f)?;
         }
         Ok(())
     }

@@ -1,6 +1,5 @@
-use Rattle.std.proofs.Common.{◌≡◌, ◌+◌, ◌<◌, [], ◌∷◌, ◌++◌, take, get_or, true, sym, ap, ◌∙◌, rules}
+use Rattle.std.proofs.Common.{◌≡◌, ◌+◌, [], ◌∷◌, ◌++◌, take, get_or, sym, ap, ◌∙◌, rules}
 use Rattle.std.proofs.Output.{has_written_append, has_written_of_eq}
-use Rattle.std.proofs.lemmas.Fmt.{hex_byte}
 use Rattle.std.proofs.lemmas.List.{take_more}
 use Rattle.lines.specs.Hex.{hex}
 use Rattle.lines.proofs.Digits.{hex_append}
@@ -13,7 +12,6 @@ loop-byte-preserved g c =
     let byte = get_or bytes i 0 in
     let more : hex (take i bytes) ++ hex (byte ∷ []) ≡ hex (take (i + 1) bytes) =
     sym (hex_append (take i bytes) (byte ∷ [])) ∙ ap hex (sym (take_more bytes i 0 c.loop-byte-test.true)) in
-    let small : byte < 256 = search rules in
     λ plain.
-    has_written_of_eq _ _ _ _ _ (ap (λ l. hex (take i bytes) ++ l) (hex_byte true byte small) ∙ more)
+    has_written_of_eq _ _ _ _ _ more
     (has_written_append _ _ _ _ _ _ (c.loop-byte.invariant plain) (search rules))

@@ -1,6 +1,5 @@
-use Rattle.std.proofs.Common.{◌≡◌, ◌<◌, [], ◌∷◌, ◌++◌, min, length, true, sym, ap, ◌∙◌, append_assoc, rules}
-use Rattle.std.proofs.Output.{has_written_append, has_written_of_eq}
-use Rattle.std.proofs.lemmas.Fmt.{hex_byte}
+use Rattle.std.proofs.Common.{◌≡◌, ◌<◌, [], ◌∷◌, ◌++◌, min, length, sym, ap, ◌∙◌, append_assoc, rules}
+use Rattle.std.proofs.Output.{has_written_append}
 use Rattle.std.specs.Slice.Iter.{chunks_rest}
 use Rattle.lines.specs.Answers.{bits_packed}
 use Rattle.lines.specs.Hex.{hex}
@@ -18,12 +17,11 @@ loop-bits-preserved g c =
       eight = search rules;
       written = λ plain.
           let before = c.loop-bits.invariant.written plain in
-          let byte = c.octet-byte.result in
-          let small : byte < 256 = search rules in
+          let byte = c.octet.result in
           let whole : byte ∷ bits_packed rest ≡ bits_packed (chunks_rest c.loop-bits.bits-iterator) =
-          ap (λ n. n ∷ bits_packed rest) c.octet-byte.ensures ∙ sym (packed_more bits rest long some) ∙ ap bits_packed (sym parted) in (
+          ap (λ n. n ∷ bits_packed rest) c.octet.ensures ∙ sym (packed_more bits rest long some) ∙ ap bits_packed (sym parted) in (
             before.0 ++ hex (byte ∷ []),
-            has_written_of_eq _ _ _ _ _ (ap (λ l. before.0 ++ l) (hex_byte true byte small)) (has_written_append _ _ _ _ _ _ before.1 (search rules)),
+            has_written_append _ _ _ _ _ _ before.1 (search rules),
             append_assoc before.0 (hex (byte ∷ [])) (hex (bits_packed rest)) ∙ ap (λ l. before.0 ++ hex l) whole ∙ before.2,
           );
     }
