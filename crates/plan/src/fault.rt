@@ -7,10 +7,10 @@ ghost use Rattle.plan.specs.declared.fault.ChainFault.TheVariants.{Plan, OutOfMe
 use std::alloc::{AllocError, AllocFailed};
 use std::fmt;
 
-// What is wrong with the parts of a plan, numbered from 1 as the questions are.
+// What is wrong with the parts of a plan, in the order of the questions.
 #[derive(Clone, Copy, Debug, PartialEq, Eq)]
 pub enum PlanFault {
-    ConstraintLength = 1,
+    ConstraintLength,
     Period,
     Entry,
     BlockLength,
@@ -62,12 +62,12 @@ impl<T: Drop> From<AllocFailed<T>> for ChainFault {
     }
 }
 
-// The number of the question that was answered no.
+// The number of the question that was answered no: they are counted from 1.
 impl From<PlanFault> for u8 {
     ghost from_gives = { λ fault number. number ≡ plan_number fault };
 
     fn from(fault: PlanFault) -> u8 {
-        fault as u8
+        fault as u8 + 1
     }
 }
 
